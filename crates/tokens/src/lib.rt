@@ -1,0 +1,16 @@
+// Tokens, answers and the 32-bit words that stand for them.
+mod answer;
+mod answers;
+mod category;
+mod codec;
+mod fields;
+mod token;
+mod token_category;
+
+pub use answer::Answer;
+pub use answer::Entry;
+pub use answer::GroupKind;
+pub use answer::Scope;
+pub use category::Category;
+pub use token::Token;
+pub use token_category::TokenCategory;
