@@ -1,0 +1,3 @@
+mod Fronts
+mod Letters
+pub mod Reading
