@@ -1,0 +1,4 @@
+pub mod Finding
+pub mod Places
+pub mod Entering
+pub mod Listed

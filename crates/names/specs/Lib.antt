@@ -1,0 +1,4 @@
+pub mod Naming
+pub mod Entries
+pub mod Indexing
+pub mod Spelled
