@@ -1,0 +1,5 @@
+mod Turns
+mod Splits
+mod Beginning
+mod Placing
+mod Heads

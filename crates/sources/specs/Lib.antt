@@ -1,0 +1,4 @@
+pub mod Faults
+pub mod Ahead
+pub mod Texts
+pub mod Texted
