@@ -2,3 +2,4 @@ pub mod Faults
 pub mod Ahead
 pub mod Texts
 pub mod Texted
+pub mod Trials

@@ -8,6 +8,7 @@ mod splitting;
 mod text;
 mod text_source;
 mod texts;
+mod trials;
 
 pub use fault::Layer;
 pub use fault::LineFault;
@@ -21,3 +22,4 @@ pub use source::Source;
 pub use text::MakeFault;
 pub use text::Text;
 pub use text_source::TextSource;
+pub use trials::line_cases_stand;

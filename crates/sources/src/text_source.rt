@@ -36,11 +36,17 @@ impl Text {
             Ok(token) => Ok(token),
             Err(refusal) => Err(LineFault {
                 refusal,
-                place: Place {
-                    line: self.number,
-                    bytes: self.cursor.taken,
-                },
+                place: self.here(),
             }),
+        }
+    }
+
+    fn here(&self) -> Place
+        ensures { λ r. ⌜ r ≡ textPlace (now (self .entry)) ⌝ }
+    {
+        Place {
+            line: self.number,
+            bytes: self.cursor.taken,
         }
     }
 }
@@ -70,10 +76,7 @@ pub impl Source for Text as TextSource {
     }
 
     fn place(&self) -> Place {
-        Place {
-            line: self.number,
-            bytes: self.cursor.taken,
-        }
+        self.here()
     }
 
     fn most() -> Option<u64> {

@@ -1,2 +1,3 @@
 pub mod Categories
 pub mod Words
+pub mod Firsts

@@ -4,6 +4,7 @@ mod answers;
 mod category;
 mod codec;
 mod fields;
+mod first;
 mod token;
 mod token_category;
 
