@@ -5,6 +5,7 @@ mod category;
 mod codec;
 mod fields;
 mod first;
+mod stored;
 mod token;
 mod token_category;
 
@@ -13,5 +14,7 @@ pub use answer::Entry;
 pub use answer::GroupKind;
 pub use answer::Scope;
 pub use category::Category;
+pub use stored::BodyWord;
+pub use stored::ParameterWord;
 pub use token::Token;
 pub use token_category::TokenCategory;
