@@ -1,7 +1,7 @@
 use mathlib.Core.Path.{refl}
 use Rattle.sources.specs.Ahead.{aheadOf}
 use Rattle.sources.specs.Trials.{LineCases}
-use Rattle.sources.proofs.trials.line_cases_stand.Needs as need
+use Rattle.sources.proofs.trials.line_cases.Needs as need
 
 stand : LineCases
 unfolding aheadOf
@@ -18,4 +18,4 @@ stand = record {
 }
 
 pub returns : need.returns
-returns c = record { cases = stand; count = refl }
+returns c = stand
