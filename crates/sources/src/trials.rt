@@ -3,8 +3,7 @@ ghost use Rattle.sources.specs.Trials.{LineCases};
 
 fn line_cases()
     ensures { λ _. ⌜ LineCases ⌝ }
-{
-}
+{}
 
 // The worked cases of the line rules stand; tells how many there are.
 pub fn line_cases_stand() -> u8

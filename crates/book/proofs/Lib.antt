@@ -1,0 +1,6 @@
+mod Stacked
+mod Assigning
+mod Filling
+mod Starting
+mod Calling
+mod Defining

@@ -1,0 +1,7 @@
+use mathlib.Core.Path.{sym, _∙_}
+use Rattle.std.specs.Of.Vec.{vec-items}
+use Rattle.std.proofs.shelf.Lists.{length-reverse}
+use Rattle.book.proofs.contents.Book.depth.Needs as need
+
+pub returns : need.returns
+returns c = c .len .ensures ∙ c .args .self .now .kinds .ok .0 ∙ sym (length-reverse (vec-items (c .args .self .now .kinds)))

@@ -1,0 +1,10 @@
+pub mod Faults
+pub mod Bases
+pub mod Scopes
+pub mod Tabled
+pub mod Primitives
+pub mod Meanings
+pub mod Firsts
+pub mod Books
+pub mod Beyond
+pub mod Said

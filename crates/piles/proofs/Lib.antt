@@ -1,0 +1,5 @@
+pub mod Behind
+mod Sides
+mod Reversed
+mod Known
+pub mod Front

@@ -1,0 +1,4 @@
+pub mod Joins
+pub mod Helds
+pub mod Inserting
+pub mod PutBacks

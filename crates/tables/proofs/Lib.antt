@@ -1,0 +1,5 @@
+pub mod OneKey
+pub mod Told
+pub mod Laws
+pub mod Reading
+mod Examples

@@ -1,0 +1,4 @@
+pub mod Table
+pub mod Diary
+pub mod Laws
+pub mod Reading
