@@ -1,5 +1,6 @@
 ghost use mathlib.Core.Path.{_≡_};
-ghost use Rattle.book.specs.Faults.{numberOf};
+ghost use Rattle.book.specs.Faults.{numberOf, layerOf};
+use tokens::Layer;
 
 // What the book refuses, with its number.
 #[derive(Clone, Copy)]
@@ -16,5 +17,12 @@ impl BookFault {
         ensures { λ r. ⌜ r ≡ numberOf self ⌝ }
     {
         self as u8
+    }
+
+    // Every fault here is the book's own.
+    pub fn layer(self) -> Layer
+        ensures { λ r. ⌜ r ≡ layerOf self ⌝ }
+    {
+        Layer::Book
     }
 }

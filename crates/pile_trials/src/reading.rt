@@ -22,25 +22,6 @@ impl From<AllocError> for Trial as TrialFromAlloc {
     }
 }
 
-pub(crate) fn category(code: u8) -> Category {
-    match code {
-        b'\\' => Category::Escape,
-        13 => Category::EndLine,
-        32 => Category::Space,
-        b'A'..=b'Z' | b'a'..=b'z' => Category::Letter,
-        127 => Category::Invalid,
-        _ => Category::Other,
-    }
-}
-
-pub(crate) fn categories() -> [Category; 256] {
-    let mut table = [Category::Other; 256];
-    for code in 0..256 {
-        table[code] = category(code as u8);
-    }
-    table
-}
-
 pub(crate) fn text(heap: Global, bytes: &[u8]) -> Result<Text, Trial> {
     match Text::new(heap, bytes.to_vec(heap)?) {
         Ok(text) => Ok(text),
@@ -70,7 +51,7 @@ pub(crate) fn traced<S: Source>(
     names: &mut Names,
 ) -> Result<String, Trial> {
     let mut written = String::new(heap);
-    let table = categories();
+    let table = Category::first_table();
     for _ in 0..100 {
         match source.read(&table, names) {
             Ok(Some(token)) => {

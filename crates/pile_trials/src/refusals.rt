@@ -1,5 +1,4 @@
 use crate::reading::TrialDebug;
-use crate::reading::categories;
 use crate::reading::text;
 use names::Names;
 use piles::PutBack;
@@ -8,6 +7,7 @@ use sources::Source;
 use sources::Text;
 use sources::TextSource;
 use std::test::*;
+use tokens::Category;
 
 // The number of the refusal of some words, 0 where they are put.
 fn inserted(pile: &mut PutBack<Text>, words: &[u32], names: &Names) -> u8 {
@@ -62,7 +62,7 @@ fn the_place_of_a_refusal(rt: LibcRuntime) -> Result<(), Fail> {
     let heap = rt.alloc();
     let mut names = Names::new(heap)?;
     let mut pile = PutBack::new(heap, text(heap, b"a")?)?;
-    check(pile.read(&categories(), &mut names).is_ok())?;
+    check(pile.read(&Category::first_table(), &mut names).is_ok())?;
     match pile.insert(&[0x5000_0000], &names) {
         Ok(()) => Err(Fail::new("a word of kind 5 was put")),
         Err(fault) => {

@@ -66,13 +66,6 @@ impl<S: Source> PutBack<S> {
         self.held.len()
     }
 
-    // The source below.
-    pub fn below(&self) -> &S
-        ensures { λ r. ⌜ now r ≡ now (self .entry) .below ⌝ }
-    {
-        &self.below
-    }
-
     // A refusal at the place below.
     fn refused(&self, refusal: PileRefusal) -> PileFault
         ensures { λ r. ⌜ r ≡ Pile refusal (S·Source .place (now (self .entry) .below)) ⌝ }

@@ -5,8 +5,8 @@
 use Prim.Native.Nat.{ℕ}
 use Rattle.names.specs.Naming as names
 use Rattle.sources.specs.declared.fault.Place.{Place}
-use Rattle.sources.specs.declared.fault.Layer.{Layer}
-use Rattle.sources.specs.declared.fault.Layer.the-variants as layer
+use Rattle.tokens.specs.declared.layer.Layer.{Layer}
+use Rattle.tokens.specs.declared.layer.Layer.the-variants as layer
 use Rattle.sources.specs.declared.fault.LineRefusal.{LineRefusal}
 use Rattle.sources.specs.declared.fault.LineRefusal.the-variants.{Invalid}
 use Rattle.sources.specs.declared.fault.ReadRefusal.{ReadRefusal}

@@ -9,14 +9,6 @@ pub struct Place {
     pub bytes: usize,
 }
 
-// The part of the program that refuses.
-#[derive(Clone, Copy)]
-pub enum Layer {
-    Line,
-    Names,
-    Pile,
-}
-
 // Why a line refuses, with the number that the rules give it.
 #[derive(Clone, Copy)]
 pub enum LineRefusal {

@@ -1,12 +1,12 @@
 ghost use mathlib.Core.Path.{_≡_};
 ghost use Rattle.sources.specs.Faults.{lineNumber, pileNumber, readNumber, readLayer, faultNumber, faultLayer, faultPlace};
-use crate::fault::Layer;
 use crate::fault::LineFault;
 use crate::fault::LineRefusal;
 use crate::fault::PileFault;
 use crate::fault::PileRefusal;
 use crate::fault::Place;
 use crate::fault::ReadRefusal;
+use tokens::Layer;
 
 impl LineRefusal {
     fn number(self) -> u8

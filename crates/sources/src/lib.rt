@@ -10,7 +10,6 @@ mod text_source;
 mod texts;
 mod trials;
 
-pub use fault::Layer;
 pub use fault::LineFault;
 pub use fault::LineRefusal;
 pub use fault::PileFault;
