@@ -1,0 +1,14 @@
+pub mod Splits
+pub mod Depths
+pub mod Settling
+pub mod Resting
+pub mod Valid
+pub mod Feeding
+pub mod Groups
+pub mod Runs
+pub mod Living
+pub mod Standing
+pub mod Headings
+pub mod Telling
+pub mod Reasons
+pub mod ParameterTexts

@@ -1,0 +1,6 @@
+pub mod Refusals
+pub mod Braces
+pub mod Dividing
+pub mod Matching
+pub mod Laws
+pub mod Worked
