@@ -1,4 +1,6 @@
 // The book: groups, what names mean and which category each code has, and the words of definitions.
+#![tactic(auto)]
+
 mod calls;
 mod contents;
 mod fault;

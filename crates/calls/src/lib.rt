@@ -1,4 +1,6 @@
 // What keeps a macro call's arguments from being read.
+#![tactic(auto)]
+
 mod fault;
 mod faults;
 

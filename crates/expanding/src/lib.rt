@@ -1,4 +1,6 @@
 // The expansion of a macro's body with the arguments of a call.
+#![tactic(auto)]
+
 mod expansion;
 mod filling;
 

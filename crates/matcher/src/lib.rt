@@ -1,4 +1,6 @@
 // The arguments of a macro call, read from any source of tokens.
+#![tactic(auto)]
+
 mod argument;
 mod arguments;
 mod before;

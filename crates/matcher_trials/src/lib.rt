@@ -1,4 +1,6 @@
 // Calls whose arguments are read, each held to what the rules say.
+#![tactic(auto)]
+
 #[cfg(test)]
 mod bodies;
 #[cfg(test)]

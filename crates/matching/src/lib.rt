@@ -1,4 +1,6 @@
 // How the tokens behind a macro's name are divided into its arguments.
+#![tactic(auto)]
+
 mod laws;
 mod refusal;
 

@@ -1,4 +1,6 @@
 // Piles of sources read to their end, each held to what the rules say.
+#![tactic(auto)]
+
 #[cfg(test)]
 mod depth;
 mod reading;

@@ -1,4 +1,6 @@
 // What every pile of sources is made of: one source behind another, and tokens put back in front of one.
+#![tactic(auto)]
+
 mod held;
 mod holding;
 mod join;

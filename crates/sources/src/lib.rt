@@ -1,4 +1,6 @@
 // Sources of tokens: the interface, the faults of reading, and the text at the bottom.
+#![tactic(auto)]
+
 mod cursor;
 mod fault;
 mod faults;

@@ -1,4 +1,6 @@
 // The grouped table: what it holds, and its laws for every type of values.
+#![tactic(auto)]
+
 ghost use Rattle.std.specs.Prelude.{◌≡◌};
 ghost use Rattle.tables.specs.Laws.{Survives, LeavesNoTrace};
 

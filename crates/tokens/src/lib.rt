@@ -1,4 +1,6 @@
 // Tokens, answers and the 32-bit words that stand for them.
+#![tactic(auto)]
+
 mod answer;
 mod answers;
 mod category;

@@ -1,4 +1,6 @@
 // Many cases of reading, each run against what the rules say.
+#![tactic(auto)]
+
 #[cfg(test)]
 mod edges;
 mod reading;

@@ -16,4 +16,4 @@ invariant-of-result c =
     (omega (arith, ap length e, held_long t), (ap (take 16) e, tt))
 
 pub returns : goal.returns
-returns c = record { made = all_entered c.in-ok-table.table c.enter-all.new.self _ c.in-ok-table.ensures.made c.primitives.ensures c.enter-all.ensures }
+returns c = record { made = all_entered c.in_ok-table.table c.enter_all.new.self _ c.in_ok-table.ensures.made c.primitives.ensures c.enter_all.ensures }

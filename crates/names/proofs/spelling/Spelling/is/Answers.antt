@@ -8,4 +8,4 @@ tested : (ws xs ys : List ℕ) (r : Bool) → Decides r (ws ≡ ys) → ws ≡ x
 tested ws xs ys r h e = search (rules, bytes_eq-Decides)
 
 pub returns : goal.returns
-returns c = tested _ _ _ c.eq.result (slice_eq-Decides Decides-eqb _ _ _ c.eq.ensures) c.as-bytes.ensures
+returns c = tested _ _ _ c.eq.result (slice_eq-Decides Decides-eqb _ _ _ c.eq.ensures) c.as_bytes.ensures

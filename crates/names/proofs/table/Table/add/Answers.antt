@@ -43,5 +43,5 @@ returns c =
     let k = entered_new (held t) s (omega (arith, held_long t, t.few)) in
     record {
       answer = rw (← m) (sym (ap number_of k));
-      names = held_push t _ _ s c.push-reserved.ensures.items c.of.ensures ∙ sym (ap (names_after (held t)) k);
+      names = held_push t _ _ s c.push_reserved.ensures.items c.of.ensures ∙ sym (ap (names_after (held t)) k);
     }

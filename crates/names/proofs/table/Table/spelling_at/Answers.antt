@@ -14,8 +14,8 @@ pub returns : goal.returns
 returns c =
     let t = c.args.self.now in
     let i = c.args.place in
-    let entry = c.in-ok-entry.entry.now in
-    let found = c.in-ok-entry.ensures.lookup in
+    let entry = c.in_ok-entry.entry.now in
+    let found = c.in_ok-entry.ensures.lookup in
     let h : i < vec_len t.entries = omega (arith, found.3.0, c.deref.ensures.len) in
     let at = spelled_at t i entry h (◌∙◌ {b = get_or c.deref.result.now i entry} found.1 (ap (λ es. get_or es i entry) c.deref.ensures.value)) in
-    sym (slice_get-get_or (held t) i [] (omega (arith, held_long t)) ∙ ap Some (at ∙ sym c.as-bytes.ensures))
+    sym (slice_get-get_or (held t) i [] (omega (arith, held_long t)) ∙ ap Some (at ∙ sym c.as_bytes.ensures))

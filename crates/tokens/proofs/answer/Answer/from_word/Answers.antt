@@ -5,7 +5,7 @@ use Rattle.tokens.proofs.answer.Answer.from_word.Goals as goal
 
 pub returns : goal.returns
 returns c =
-    let e : c.from-fields.result ≡ answer_of c.args.word = cc in
+    let e : c.from_fields.result ≡ answer_of c.args.word = cc in
     record {
       value = e;
       exact = rw e (answer_worded c.args.word);

@@ -5,7 +5,7 @@ use Rattle.tokens.proofs.token.Token.from_word.Goals as goal
 
 pub returns : goal.returns
 returns c =
-    let e : c.from-fields.result ≡ token_of c.args.word = cc in
+    let e : c.from_fields.result ≡ token_of c.args.word = cc in
     record {
       value = e;
       exact = rw e (token_worded c.args.word);
