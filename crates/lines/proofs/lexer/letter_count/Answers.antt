@@ -4,12 +4,12 @@ use Rattle.lines.proofs.lexer.letter_count.Goals as goal
 
 pub loop-i-preserved : goal.loop-i-preserved
 loop-i-preserved c =
-    letter_more c.args.categories.now c.args.line.now c.loop-i.i c.loop-i-test.true (sym c.if-not-is-letter.ensures)
+    letter_more c.args.categories.now c.args.line.now c.loop-i.i c.loop-i-test.true (sym c.if-not-is_letter.ensures)
     ∙ c.loop-i.invariant
 
-pub returns-then-not-is-letter : goal.returns-then-not-is-letter
-returns-then-not-is-letter c = record {
-  run = sym (letter_stop c.args.categories.now c.args.line.now c.loop-i.i c.loop-i-test.true (sym c.if-not-is-letter.ensures)) ∙ c.loop-i.invariant;
+pub returns-then-not-is_letter : goal.returns-then-not-is_letter
+returns-then-not-is_letter c = record {
+  run = sym (letter_stop c.args.categories.now c.args.line.now c.loop-i.i c.loop-i-test.true (sym c.if-not-is_letter.ensures)) ∙ c.loop-i.invariant;
   within = omega arith;
 }
 

@@ -9,11 +9,11 @@ use Rattle.names.proofs.names.Names.new.Goals as goal
 all_entered : (t u : Table) (rs : List (Bor (List ℕ))) → held t ≡ [] → map (λ x. x.now) rs ≡ first_names → held u ≡ enter_all (held t) (map (λ x. x.now) rs) → held u ≡ first_names
 all_entered t u rs none its all = all ∙ ap (λ ns. enter_all ns (map (λ x. x.now) rs)) none ∙ ap (enter_all []) its
 
-pub invariant-of-result : goal.invariant-of-result
-invariant-of-result c =
-    let t = c.enter-all.new.self in
-    let e = all_entered c.in-ok-table.table t _ c.in-ok-table.ensures.made c.primitives.ensures c.enter-all.ensures in
-    (omega (arith, ap length e, held_long t), (ap (take 16) e, tt))
+pub invariant_of-result : goal.invariant_of-result
+invariant_of-result c =
+    let t = c.enter_all.new.self in
+    let e = all_entered c.in_ok-table.table t _ c.in_ok-table.ensures.made c.primitives.ensures c.enter_all.ensures in
+    record { enough = omega (arith, ap length e, held_long t); first = ap (take 16) e }
 
 pub returns : goal.returns
 returns c = record { made = all_entered c.in_ok-table.table c.enter_all.new.self _ c.in_ok-table.ensures.made c.primitives.ensures c.enter_all.ensures }

@@ -5,35 +5,26 @@ use Rattle.names.proofs.Finding.{entered_full, entered_new}
 use Rattle.names.proofs.Entering.{held_long, held_push, distinct_after, bounded_after, linked_after}
 use Rattle.names.proofs.table.Table.add.Goals as goal
 
-pub returns-then-count-eq-SPELLINGS-LIMIT : goal.returns-then-count-eq-SPELLINGS-LIMIT
-returns-then-count-eq-SPELLINGS-LIMIT c =
+pub returns-then-count-eq-SPELLINGS_LIMIT : goal.returns-then-count-eq-SPELLINGS_LIMIT
+returns-then-count-eq-SPELLINGS_LIMIT c =
     let t = c.args.self.now in
     let k = entered_full (held t) c.args.spelling.now (omega (arith, held_long t)) in
     record { answer = sym (ap number_of k); names = sym (ap (names_after (held t)) k) }
 
-pub invariant-of-self : goal.invariant-of-self
-invariant-of-self c =
+pub invariant_of-self : goal.invariant_of-self
+invariant_of-self c =
     let t = c.args.self.now in
     let s = c.args.spelling.now in
     let b = c.args.bucket in
     let small : b < length t.bounds = search rules in
-    let items = c.push-reserved.ensures.items in
-    let es = vec_items c.push-reserved.new.self in (
-      search rules,
-      (
-        search rules,
-        (
-          distinct_after t es _ s items c.of.ensures c.requires.absent,
-          (
-            bounded_after t es _ s items c.of.ensures b c.requires.bucket c.len-count.result small c.len-count.ensures,
-            (
-              linked_after t es _ s items c.of.ensures b c.requires.bucket refl,
-              tt,
-            ),
-          ),
-        ),
-      ),
-    )
+    let items = c.push_reserved.ensures.items in
+    let es = vec_items c.push_reserved.new.self in record {
+      few = search rules;
+      room = search rules;
+      distinct = distinct_after t es _ s items c.of.ensures c.requires.absent;
+      bounded = bounded_after t es _ s items c.of.ensures b c.requires.bucket c.len-count.result small c.len-count.ensures;
+      linked = linked_after t es _ s items c.of.ensures b c.requires.bucket refl;
+    }
 
 pub returns : goal.returns
 returns c =

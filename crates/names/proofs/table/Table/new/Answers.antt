@@ -16,8 +16,8 @@ module _ (es : List Entry) (e : es ≡ []) where
   linked : Linked (spellings es) (belows es)
   linked = subst (λ xs. Linked (spellings xs) (belows xs)) (sym e) (λ p. absurd (omega (arith, p.1)))
 
-pub invariant-of-result : goal.invariant-of-result
-invariant-of-result c =
-    let made = c.in-ok-entries.ensures in
-    let items = vec_items c.in-ok-entries.entries in
-    (omega arith, (made.capacity, (distinct items made.items, (bounded items made.items, (linked items made.items, tt)))))
+pub invariant_of-result : goal.invariant_of-result
+invariant_of-result c =
+    let made = c.in_ok-entries.ensures in
+    let items = vec_items c.in_ok-entries.entries in
+    record { few = omega arith; room = made.capacity; distinct = distinct items made.items; bounded = bounded items made.items; linked = linked items made.items }

@@ -16,8 +16,8 @@ loop-bound-init c =
     let t = c.args.self.now in
     left_first (held t) c.args.spelling.now _ c.args.bucket c.requires.bucket (t.bounded c.args.bucket)
 
-pub overflow-add-result : goal.overflow-add-result
-overflow-add-result c = omega (arith, held_long c.args.self.now, c.loop-bound.invariant.0, c.args.self.now.few)
+pub overflow_add-result : goal.overflow_add-result
+overflow_add-result c = omega (arith, held_long c.args.self.now, c.loop-bound.invariant.0, c.args.self.now.few)
 
 pub returns-then-is : goal.returns-then-is
 returns-then-is c =

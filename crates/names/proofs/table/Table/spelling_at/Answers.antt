@@ -4,11 +4,11 @@ use Rattle.names.specs.Spelled.{held}
 use Rattle.names.proofs.Entering.{held_long, spelled_at}
 use Rattle.names.proofs.table.Table.spelling_at.Goals as goal
 
-pub returns-in-err-entry : goal.returns-in-err-entry
-returns-in-err-entry c =
+pub returns-in_err-entry : goal.returns-in_err-entry
+returns-in_err-entry c =
     let t = c.args.self.now in
-    let past = c.in-err-entry.ensures.lookup.3 in
-    rw c.from-residual.ensures (sym (slice_get_past (held t) c.args.place (omega (arith, past, held_long t, c.deref.ensures.len))))
+    let past = c.in_err-entry.ensures.lookup.3 in
+    rw c.from_residual.ensures (sym (slice_get_past (held t) c.args.place (omega (arith, past, held_long t, c.deref.ensures.len))))
 
 pub returns : goal.returns
 returns c =
