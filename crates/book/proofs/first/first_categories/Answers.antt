@@ -6,7 +6,7 @@ use Rattle.book.proofs.first.first_categories.Goals as goal
 pub loop-code-preserved : goal.loop-code-preserved
 loop-code-preserved c =
     let i = c.loop-code.invariant in
-    let p = c.push-reserved.ensures in
+    let p = c.push_reserved.ensures in
     let b = i.0 in
     let n = i.1 in (
       omega arith,

@@ -10,14 +10,14 @@ returns c =
     let t = c.args.cursor.now.taken in
     let n = c.lexed-count.result.1 in
     let s = c.args.cursor.now.state in
-    let u = c.state-after-cursor.result in
+    let u = c.state_after-cursor.result in
     let p = shown c.lexed-count.result.0 in
     let ns = listed c.args.names.now in
-    let ms = listed c.token-of.new.names in
+    let ms = listed c.token_of.new.names in
     let took = c.lexed-count.ensures.taken in
     record {
-      turned = turn cs line t n s u p ns ms c.token-of.result c.lexed-count.ensures.piece took c.state-after-cursor.ensures c.token-of.ensures.answer c.token-of.ensures.names;
-      unnamed = turn_unnamed cs line t n s u p ns ms c.token-of.result c.token-of.ensures.answer c.token-of.ensures.names;
-      onward = turn_some cs line t n s u p ns ms c.token-of.result took c.requires;
-      within = turn_within cs line t n s u p ns ms c.token-of.result took c.requires;
+      turned = turn cs line t n s u p ns ms c.token_of.result c.lexed-count.ensures.piece took c.state_after-cursor.ensures c.token_of.ensures.answer c.token_of.ensures.names;
+      unnamed = turn_unnamed cs line t n s u p ns ms c.token_of.result c.token_of.ensures.answer c.token_of.ensures.names;
+      onward = turn_some cs line t n s u p ns ms c.token_of.result took c.requires;
+      within = turn_within cs line t n s u p ns ms c.token_of.result took c.requires;
     }

@@ -9,8 +9,8 @@ returns c =
     let v = c.args.self.now.codes.values in
     let s = c.args.self.now.sized.1 in
     record {
-      count = c.as-slice.ensures.len ∙ s;
+      count = c.as_slice.ensures.len ∙ s;
       each = λ k d h.
           let l : k < length (vec_items v) = omega (arith, v.ok.0) in
-          ap (λ (xs : List Category). get_or xs k d) c.as-slice.ensures.value ∙ get_or_default (vec_items v) k d Other l;
+          ap (λ (xs : List Category). get_or xs k d) c.as_slice.ensures.value ∙ get_or_default (vec_items v) k d Other l;
     }

@@ -23,22 +23,21 @@ use Rattle.book.proofs.contents.Book.define.Goals as goal
 unchanged : (s t : State Held) (o : Op Held) → t ≡ tried 2048 s o → refused 2048 s o ≡ true → t ≡ s
 unchanged s t o e r = e ∙ cond-true (refused 2048 s o) s (step s o) r
 
-pub invariant-of-self : goal.invariant-of-self
-invariant-of-self c =
+pub invariant_of-self : goal.invariant_of-self
+invariant_of-self c =
     let b = c.args.self.now in
     let a = c.assign.ensures in
     let p = within (vec_len b.words.parameters) (vec_len b.words.bodies) in
     let s = state_of no_meaning b.names in
-    let r = (was_refused _ _ _ (c.in-err-assign.ensures.answer no_meaning)).0 in (
-      (a.sizes.0 ∙ b.sized.0, b.sized.1),
-      (
-        (a.sizes.1 ∙ b.level.0, b.level.1),
-        (b.room, (subst (Holds p) (sym (unchanged s (state_of no_meaning c.assign.new.self) _ (a.state no_meaning) r)) b.lying, tt)),
-      ),
-    )
+    let r = (was_refused _ _ _ (c.in_err-assign.ensures.answer no_meaning)).0 in record {
+      sized = (a.sizes.0 ∙ b.sized.0, b.sized.1);
+      level = (a.sizes.1 ∙ b.level.0, b.level.1);
+      room = b.room;
+      lying = subst (Holds p) (sym (unchanged s (state_of no_meaning c.assign.new.self) _ (a.state no_meaning) r)) b.lying;
+    }
 
-pub returns-in-err-assign : goal.returns-in-err-assign
-returns-in-err-assign c =
+pub returns-in_err-assign : goal.returns-in_err-assign
+returns-in_err-assign c =
     let b = c.args.self.now in
     let a = c.assign.ensures in
     let s = state_of no_meaning b.names in
@@ -46,11 +45,11 @@ returns-in-err-assign c =
     let bs = c.args.body.now in
     let n = length ps + length bs in
     let o : Op Means = operation c.args.scope c.args.name (macro c.args.long ps bs) in
-    let w = was_refused _ _ _ (c.in-err-assign.ensures.answer no_meaning) in
+    let w = was_refused _ _ _ (c.in_err-assign.ensures.answer no_meaning) in
     let r : refused 2048 (book_of b).names o ≡ true = refused_read (read b.words) 2048 s c.args.scope c.args.name (Macro c.next-place.result) _ ∙ w.0 in
-    let d : if_room n (book_of b) (record_answer (book_of b).names o) ≡ record_answer (book_of b).names o = past_checks (ltb 2048 n) (ltb 16384 ((book_of b).words + n)) DefinitionTooLong WordsFull (record_answer (book_of b).names o) c.in-ok-room-for.ensures.answer in
+    let d : if_room n (book_of b) (record_answer (book_of b).names o) ≡ record_answer (book_of b).names o = past_checks (ltb 2048 n) (ltb 16384 ((book_of b).words + n)) DefinitionTooLong WordsFull (record_answer (book_of b).names o) c.in_ok-room_for.ensures.answer in
     let q = if_refused (refused 2048 (book_of b).names o) RecordsFull (book_of b) (defining n o (book_of b)) r in
-    let x = err_from_is_err_and c.from-residual-in-err-assign.result c.from-residual-in-err-assign.ensures.1 in
+    let x = err_from_is_err_and c.from_residual-in_err-assign.result c.from_residual-in_err-assign.ensures.1 in
     let u = unchanged s (state_of no_meaning c.assign.new.self) _ (a.state no_meaning) w.0 in
     record {
       answer = x.1 ∙ ap Err (x.2 ∙ w.1) ∙ q.0 ∙ sym d;
@@ -59,8 +58,8 @@ returns-in-err-assign c =
           ∙ q.1 ∙ ap (λ (z : Result (Unit {0}) BookFault). after z (book_of b) (defining n o (book_of b))) (sym d);
     }
 
-pub invariant-of-self-2 : goal.invariant-of-self-2
-invariant-of-self-2 c =
+pub invariant_of-self-2 : goal.invariant_of-self-2
+invariant_of-self-2 c =
     let b = c.args.self.now in
     let a = c.assign.ensures in
     let ps = c.args.parameters.now in
@@ -72,20 +71,13 @@ invariant-of-self-2 c =
     let ml : vec_len u.bodies ≡ vec_len w.bodies + length bs =
     u.bodies.ok.0 ∙ ap length c.add.ensures.bodies ∙ length-append (vec_items w.bodies) bs ∙ ap (λ (n : ℕ). n + length bs) (sym w.bodies.ok.0) in
     let s = state_of no_meaning b.names in
-    let e = a.state no_meaning ∙ ap (λ m. tried 2048 s (operation c.args.scope c.args.name (Macro m))) c.next-place.ensures in (
-      (a.sizes.0 ∙ b.sized.0, b.sized.1),
-      (
-        (a.sizes.1 ∙ b.level.0, b.level.1),
-        (
-          b.room,
-          (
-            defined_within (vec_items w.parameters) ps (vec_items w.bodies) bs (vec_len w.parameters) (vec_len w.bodies) w.parameters.ok.0 w.bodies.ok.0
-                (vec_len u.parameters) (vec_len u.bodies) nl ml s (state_of no_meaning c.assign.new.self) c.args.scope c.args.name c.args.long b.lying e,
-            tt,
-          ),
-        ),
-      ),
-    )
+    let e = a.state no_meaning ∙ ap (λ m. tried 2048 s (operation c.args.scope c.args.name (Macro m))) c.next-place.ensures in record {
+      sized = (a.sizes.0 ∙ b.sized.0, b.sized.1);
+      level = (a.sizes.1 ∙ b.level.0, b.level.1);
+      room = b.room;
+      lying = defined_within (vec_items w.parameters) ps (vec_items w.bodies) bs (vec_len w.parameters) (vec_len w.bodies) w.parameters.ok.0 w.bodies.ok.0
+          (vec_len u.parameters) (vec_len u.bodies) nl ml s (state_of no_meaning c.assign.new.self) c.args.scope c.args.name c.args.long b.lying e;
+    }
 
 pub returns : goal.returns
 returns c =
@@ -102,12 +94,12 @@ returns c =
     let s = state_of no_meaning b.names in
     let o : Op Means = operation c.args.scope c.args.name (macro c.args.long ps bs) in
     let e = a.state no_meaning ∙ ap (λ m. tried 2048 s (operation c.args.scope c.args.name (Macro m))) c.next-place.ensures in
-    let r : refused 2048 (book_of b).names o ≡ false = refused_read (read w) 2048 s c.args.scope c.args.name (Macro c.next-place.result) _ ∙ was_done _ _ (c.in-ok-assign.ensures.answer no_meaning) in
+    let r : refused 2048 (book_of b).names o ≡ false = refused_read (read w) 2048 s c.args.scope c.args.name (Macro c.next-place.result) _ ∙ was_done _ _ (c.in_ok-assign.ensures.answer no_meaning) in
     let names =
     defined (vec_items w.parameters) ps (vec_items w.bodies) bs (vec_len w.parameters) (vec_len w.bodies) w.parameters.ok.0 w.bodies.ok.0
     (vec_items u.parameters) (vec_items u.bodies) c.add.ensures.parameters c.add.ensures.bodies s (state_of no_meaning c.assign.new.self) c.args.scope c.args.name c.args.long b.lying e
     ∙ cond-false (refused 2048 (book_of b).names o) (book_of b).names (step (book_of b).names o) r in
-    let d : if_room n (book_of b) (record_answer (book_of b).names o) ≡ record_answer (book_of b).names o = past_checks (ltb 2048 n) (ltb 16384 ((book_of b).words + n)) DefinitionTooLong WordsFull (record_answer (book_of b).names o) c.in-ok-room-for.ensures.answer in
+    let d : if_room n (book_of b) (record_answer (book_of b).names o) ≡ record_answer (book_of b).names o = past_checks (ltb 2048 n) (ltb 16384 ((book_of b).words + n)) DefinitionTooLong WordsFull (record_answer (book_of b).names o) c.in_ok-room_for.ensures.answer in
     let q = if_done (refused 2048 (book_of b).names o) RecordsFull (book_of b) (defining n o (book_of b)) r in
     record {
       answer = q.0 ∙ sym d;

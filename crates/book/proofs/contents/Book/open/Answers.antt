@@ -20,20 +20,19 @@ returns-then-len-ge-GROUPS c =
     let p = if_refused (leb 250 (length (book_of b).groups)) GroupsFull (book_of b) (opening c.args.kind (book_of b)) (le-leb 250 _ h) in
     record { answer = p.0; state = p.1 }
 
-pub invariant-of-self : goal.invariant-of-self
-invariant-of-self c =
+pub invariant_of-self : goal.invariant_of-self
+invariant_of-self c =
     let b = c.args.self.now in
     let o = c.open.ensures in
     let u = c.open-2.ensures in
     let n = b.level.0 in
     let m = b.level.1 in
-    let p = within (vec_len b.words.parameters) (vec_len b.words.bodies) in (
-      (o.sizes.0 ∙ b.sized.0, u.sizes.0 ∙ b.sized.1),
-      (
-        (omega (arith, o.sizes.1, c.push-reserved.ensures.len), omega (arith, u.sizes.1, c.push-reserved.ensures.len)),
-        (omega (arith, c.push-reserved.ensures.capacity, b.room), (subst (Holds p) (sym (o.state no_meaning)) b.lying, tt)),
-      ),
-    )
+    let p = within (vec_len b.words.parameters) (vec_len b.words.bodies) in record {
+      sized = (o.sizes.0 ∙ b.sized.0, u.sizes.0 ∙ b.sized.1);
+      level = (omega (arith, o.sizes.1, c.push_reserved.ensures.len), omega (arith, u.sizes.1, c.push_reserved.ensures.len));
+      room = omega (arith, c.push_reserved.ensures.capacity, b.room);
+      lying = subst (Holds p) (sym (o.state no_meaning)) b.lying;
+    }
 
 pub returns : goal.returns
 returns c =
@@ -41,7 +40,7 @@ returns c =
     let n = length-reverse (vec_items b.kinds) in
     let h : length (reverse (vec_items b.kinds)) < 250 = omega (arith, b.kinds.ok.0, c.len.ensures, c.if-len-ge-GROUPS.false) in
     let p = if_done (leb 250 (length (book_of b).groups)) GroupsFull (book_of b) (opening c.args.kind (book_of b)) (lt-leb 250 _ h) in
-    let ks = ap reverse c.push-reserved.ensures.items ∙ kinds_pushed (vec_items b.kinds) c.args.kind in
+    let ks = ap reverse c.push_reserved.ensures.items ∙ kinds_pushed (vec_items b.kinds) c.args.kind in
     record {
       answer = p.0;
       state = (λ i. record {

@@ -17,8 +17,8 @@ undo-requires g c =
     let e = bases_popped (vec_items t.bases) (vec_items c.pop.new.self) c.in-Some.base c.in-Some.ensures.items in
     record { paired = t.paired; keyed = t.keyed; within = (based (vec_len t.saved) c.in-Some.base (vec_items t.bases) (vec_items c.pop.new.self) e t.based).0 }
 
-pub invariant-of-self : goal.invariant-of-self
-invariant-of-self g c =
+pub invariant_of-self : goal.invariant_of-self
+invariant_of-self g c =
     let t = c.args.self.now in
     let b = c.in-Some.base in
     let u = c.undo.ensures in
@@ -26,17 +26,14 @@ invariant-of-self g c =
     let h = based (vec_len t.saved) b (vec_items t.bases) (vec_items c.pop.new.self) e t.based in
     let l : b ≤ vec_len t.saved = h.0 in
     let k : b ≤ length (vec_items t.saved) = omega (arith, t.saved.ok.0) in
-    let n : vec_len c.undo.new.saved ≡ b = c.undo.new.saved.ok.0 ∙ ap length u.records ∙ length-take-le b (vec_items t.saved) k in (
-      u.sizes.1 ∙ t.paired ∙ sym u.sizes.0,
-      (
-        subst (λ (m : ℕ). keys_below m (vec_items c.undo.new.saved) ≡ true) (sym u.sizes.0)
-            (subst (λ (ss : List (Saved _)). keys_below (vec_len t.values) ss ≡ true) (sym u.records) (keys_take (vec_len t.values) b (vec_items t.saved) t.keyed)),
-        (
-          subst (λ (m : ℕ). bounded m (reverse (vec_items c.pop.new.self)) ≡ true) (sym n) h.1,
-          ((omega (arith, t.records.0), omega (arith, t.records.1, u.sizes.2)), ((omega (arith, t.groups.0, c.in-Some.ensures.len), omega (arith, t.groups.1, c.in-Some.ensures.capacity)), tt)),
-        ),
-      ),
-    )
+    let n : vec_len c.undo.new.saved ≡ b = c.undo.new.saved.ok.0 ∙ ap length u.records ∙ length-take-le b (vec_items t.saved) k in record {
+      paired = u.sizes.1 ∙ t.paired ∙ sym u.sizes.0;
+      keyed = subst (λ (m : ℕ). keys_below m (vec_items c.undo.new.saved) ≡ true) (sym u.sizes.0)
+          (subst (λ (ss : List (Saved _)). keys_below (vec_len t.values) ss ≡ true) (sym u.records) (keys_take (vec_len t.values) b (vec_items t.saved) t.keyed));
+      based = subst (λ (m : ℕ). bounded m (reverse (vec_items c.pop.new.self)) ≡ true) (sym n) h.1;
+      records = (omega (arith, t.records.0), omega (arith, t.records.1, u.sizes.2));
+      groups = (omega (arith, t.groups.0, c.in-Some.ensures.len), omega (arith, t.groups.1, c.in-Some.ensures.capacity));
+    }
 
 pub returns-in-Some : goal.returns-in-Some
 returns-in-Some g c =

@@ -5,20 +5,23 @@ use Rattle.book.specs.Tabled.{table_of}
 use Rattle.book.proofs.Stacked.{bounded_cons, groups_opened}
 use Rattle.book.proofs.grouped.Grouped.open.Goals as goal
 
-pub invariant-of-self : goal.invariant-of-self
-invariant-of-self g c =
+pub invariant_of-self : goal.invariant_of-self
+invariant_of-self g c =
     let t = c.args.self.now in
-    let p = c.push-reserved.ensures in
+    let p = c.push_reserved.ensures in
     let e = ap reverse p.items ∙ reverse-append (vec_items t.bases) (c.len.result ∷ []) in
-    let b = bounded_cons (vec_len t.saved) c.len.result (reverse (vec_items t.bases)) (omega arith) (subst (λ (n : ℕ). bounded n (reverse (vec_items t.bases)) ≡ true) (sym c.len.ensures) t.based) in (
-      t.paired,
-      (t.keyed, (subst (λ (bs : List ℕ). bounded (vec_len t.saved) bs ≡ true) (sym e) b, (t.records, ((omega (arith, c.requires), omega (arith, t.groups.1)), tt)))),
-    )
+    let b = bounded_cons (vec_len t.saved) c.len.result (reverse (vec_items t.bases)) (omega arith) (subst (λ (n : ℕ). bounded n (reverse (vec_items t.bases)) ≡ true) (sym c.len.ensures) t.based) in record {
+      paired = t.paired;
+      keyed = t.keyed;
+      based = subst (λ (bs : List ℕ). bounded (vec_len t.saved) bs ≡ true) (sym e) b;
+      records = t.records;
+      groups = (omega (arith, c.requires), omega (arith, t.groups.1));
+    }
 
 pub returns : goal.returns
 returns g c =
     let t = c.args.self.now in
-    let p = c.push-reserved.ensures in
+    let p = c.push_reserved.ensures in
     let e = ap reverse p.items ∙ reverse-append (vec_items t.bases) (c.len.result ∷ []) in
     let o = ap (λ bs. groups_of bs (vec_items t.saved)) e ∙ groups_opened (reverse (vec_items t.bases)) (vec_items t.saved) c.len.result (c.len.ensures ∙ t.saved.ok.0) in
     record {

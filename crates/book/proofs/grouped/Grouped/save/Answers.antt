@@ -7,26 +7,26 @@ use Rattle.book.specs.Tabled.{table_of}
 use Rattle.book.proofs.Stacked.{bounded_more, keys_push, groups_pushed}
 use Rattle.book.proofs.grouped.Grouped.save.Goals as goal
 
-pub invariant-of-self : goal.invariant-of-self
-invariant-of-self g c =
+pub invariant_of-self : goal.invariant_of-self
+invariant_of-self g c =
     let t = c.args.self.now in
     let n = length-reverse (vec_items t.bases) in
     let b = t.bases.ok.0 in
-    let p = c.push-reserved.ensures in
+    let p = c.push_reserved.ensures in
     let z : 0 < length (reverse (vec_items t.bases)) = omega (arith, c.requires.inside) in
-    let m : vec_len t.saved ≤ vec_len c.push-reserved.new.self = omega arith in (
-      t.paired,
-      (
-        rw p.items (keys_push (vec_len t.values) (vec_items t.saved) _ t.keyed c.requires.within),
-        (bounded_more _ _ (reverse (vec_items t.bases)) z m t.based, ((omega (arith, c.requires.room), omega (arith, t.records.1)), (t.groups, tt))),
-      ),
-    )
+    let m : vec_len t.saved ≤ vec_len c.push_reserved.new.self = omega arith in record {
+      paired = t.paired;
+      keyed = rw p.items (keys_push (vec_len t.values) (vec_items t.saved) _ t.keyed c.requires.within);
+      based = bounded_more _ _ (reverse (vec_items t.bases)) z m t.based;
+      records = (omega (arith, c.requires.room), omega (arith, t.records.1));
+      groups = t.groups;
+    }
 
 pub returns : goal.returns
 returns g c =
     let t = c.args.self.now in
     let bs = reverse (vec_items t.bases) in
-    let p = c.push-reserved.ensures in
+    let p = c.push_reserved.ensures in
     let h : bounded (length (vec_items t.saved)) bs ≡ true = subst (λ (n : ℕ). bounded n bs ≡ true) t.saved.ok.0 t.based in
     record {
       state = λ d.

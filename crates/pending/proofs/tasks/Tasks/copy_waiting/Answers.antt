@@ -5,8 +5,8 @@ use Rattle.pending.proofs.Waiting.{tokens_in, waiting_within, waiting_tokens, co
 use Rattle.pending.proofs.tasks.Tasks.copy_waiting.Goals as goal
 use Rattle.pending.proofs.tasks.Tasks.copy_waiting.Goals.{in-After, in-Prefix}
 
-pub overflow-sub-oldest : goal.overflow-sub-oldest
-overflow-sub-oldest c =
+pub overflow_sub-oldest : goal.overflow_sub-oldest
+overflow_sub-oldest c =
     let v = c.args.self.now.started in
     omega (arith, c.waiting-count.ensures, c.len-2.ensures, waiting_within (vec_items v), v.ok.0)
 
@@ -22,8 +22,8 @@ loop-i-init c =
       refl,
     )
 
-pub push-reserved-requires : goal.push-reserved-requires
-push-reserved-requires c = omega (arith, c.loop-i.invariant.1, c.len-i-end.ensures)
+pub push_reserved-requires : goal.push_reserved-requires
+push_reserved-requires c = omega (arith, c.loop-i.invariant.1, c.len-i-end.ensures)
 
 pub loop-i-preserved : goal.loop-i-preserved
 loop-i-preserved c =
@@ -34,9 +34,9 @@ loop-i-preserved c =
     elim c.match-index.branch [
       | in-After w ↦
           let g = c.index.ensures in (
-            copy_token (vec_items v) c.loop-i.i copied all w.in-After.token (vec_items c.match-index.tokens) h (rw w.in-After.is at g) (ap vec_items w.tokens-is ∙ w.push-reserved.ensures.items) c.loop-i.invariant.0,
-            omega (arith, c.loop-i.invariant.1, c.len-i-end.ensures, ap vec_len w.tokens-is, w.push-reserved.ensures.len, ap vec_capacity w.tokens-is, w.push-reserved.ensures.capacity),
-            ap vec_capacity w.tokens-is ∙ w.push-reserved.ensures.capacity ∙ c.loop-i.invariant.2,
+            copy_token (vec_items v) c.loop-i.i copied all w.in-After.token (vec_items c.match-index.tokens) h (rw w.in-After.is at g) (ap vec_items w.tokens-is ∙ w.push_reserved.ensures.items) c.loop-i.invariant.0,
+            omega (arith, c.loop-i.invariant.1, c.len-i-end.ensures, ap vec_len w.tokens-is, w.push_reserved.ensures.len, ap vec_capacity w.tokens-is, w.push_reserved.ensures.capacity),
+            ap vec_capacity w.tokens-is ∙ w.push_reserved.ensures.capacity ∙ c.loop-i.invariant.2,
           )
       | in-Prefix w ↦
           let g = c.index.ensures in (

@@ -3,8 +3,8 @@ use Rattle.pending.specs.Underway.{tasks_of, waiting_of}
 use Rattle.pending.proofs.Waiting.{waiting_within, kept_tasks}
 use Rattle.pending.proofs.tasks.Tasks.end_waiting.Goals as goal
 
-pub overflow-sub-kept : goal.overflow-sub-kept
-overflow-sub-kept c =
+pub overflow_sub-kept : goal.overflow_sub-kept
+overflow_sub-kept c =
     let v = c.args.self.now.started in
     omega (arith, c.waiting.ensures, c.len.ensures, waiting_within (vec_items v), v.ok.0)
 

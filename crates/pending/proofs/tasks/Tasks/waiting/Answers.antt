@@ -7,7 +7,7 @@ use Rattle.pending.proofs.tasks.Tasks.waiting.Goals as goal
 
 pub loop-task-init : goal.loop-task-init
 loop-task-init c =
-    let e : iter_rest (rev_source c.into-iter-task-iterator.result) ≡ vec_items c.args.self.now.started = ap (λ r. iter_rest (rev_source r)) c.into-iter-task-iterator.ensures.into-iter-gives ∙ ap iter_rest c.rev-task-items.ensures.source ∙ c.iter.ensures.rest ∙ c.deref.ensures.value in
+    let e : iter_rest (rev_source c.into_iter-task-iterator.result) ≡ vec_items c.args.self.now.started = ap (λ r. iter_rest (rev_source r)) c.into_iter-task-iterator.ensures.into_iter_gives ∙ ap iter_rest c.rev-task-items.ensures.source ∙ c.iter.ensures.rest ∙ c.deref.ensures.value in
     (tt, tt, ap (λ l. 0 + length (waiting_of (reverse l))) e ∙ zero-add (length (waiting_of (tasks_of c.args.self.now))))
 
 -- one token more is counted, of those that were left
@@ -16,8 +16,8 @@ counts c =
     let e = c.in-Some.ensures.steps in
     after_counts (iter_rest (rev_source c.loop-task.task-iterator)) (iter_rest (rev_source c.next.new.self)) c.in-After.field-0 (rw c.in-After.is at e)
 
-pub overflow-add-count : goal.overflow-add-count
-overflow-add-count c =
+pub overflow_add-count : goal.overflow_add-count
+overflow_add-count c =
     let v = c.args.self.now.started in
     omega (arith, counts c, c.loop-task.invariant.2, waiting_within (vec_items v), v.ok.0, c.args.self.now.few)
 

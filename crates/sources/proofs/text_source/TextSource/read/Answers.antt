@@ -14,14 +14,14 @@ stays t u e h =
     let l : text_lines u ≡ text_lines t = ap (λ b. made_lines (vec_items b)) e in
     (l, text_placed u h ∙ ap (λ ls. place_in ls (text_ahead u)) l)
 
-pub returns-in-err-token : goal.returns-in-err-token
-returns-in-err-token c =
-    let u = c.read-line.new.self in
-    let e = c.in-err-token.ensures in
-    let f = c.in-err-token.field-0.0 in
-    let was : _ ≡ fault f.refusal (listed c.read-line.new.names) (text_ahead u) = sym c.lines.invariant.0 ∙ e.turned in
-    let p = err_from_is_err_and c.from-residual.result c.from-residual.ensures.1 in
-    let h = fault_answered (text_place u) _ f (listed c.read-line.new.names) (text_ahead u) was e.placed in
+pub returns-in_err-token : goal.returns-in_err-token
+returns-in_err-token c =
+    let u = c.read_line.new.self in
+    let e = c.in_err-token.ensures in
+    let f = c.in_err-token.field-0.0 in
+    let was : _ ≡ fault f.refusal (listed c.read_line.new.names) (text_ahead u) = sym c.lines.invariant.0 ∙ e.turned in
+    let p = err_from_is_err_and c.from_residual.result c.from_residual.ensures.1 in
+    let h = fault_answered (text_place u) _ f (listed c.read_line.new.names) (text_ahead u) was e.placed in
     record {
       answer = rw (p.1, p.2) h.0;
       names = h.1;
@@ -31,25 +31,25 @@ returns-in-err-token c =
 
 pub returns-in-Some : goal.returns-in-Some
 returns-in-Some c =
-    let u = c.read-line.new.self in
-    let e = c.in-ok-token.ensures in
-    let t = turned_some c.args.categories.now _ (listed c.read-line.new.names) (listed c.read-line.new.names) (text_ahead u) c.in-ok-token.field-0 c.in-Some.token c.in-Some.is e.turned in
-    let h = some_answered (text_place u) _ c.in-Some.token (listed c.read-line.new.names) (text_ahead u) _ (sym c.lines.invariant.0 ∙ t) in
+    let u = c.read_line.new.self in
+    let e = c.in_ok-token.ensures in
+    let t = turned_some c.args.categories.now _ (listed c.read_line.new.names) (listed c.read_line.new.names) (text_ahead u) c.in_ok-token.field-0 c.in-Some.token c.in-Some.is e.turned in
+    let h = some_answered (text_place u) _ c.in-Some.token (listed c.read_line.new.names) (text_ahead u) _ (sym c.lines.invariant.0 ∙ t) in
     record {
       answer = h.0;
       names = h.1;
       items = h.2;
-      reads = stays c.args.self.now u (e.bytes ∙ c.lines.invariant.2) (inl (onward_some u.cursor.taken (vec_len u.line) c.in-ok-token.field-0 c.in-Some.token c.in-Some.is e.onward));
+      reads = stays c.args.self.now u (e.bytes ∙ c.lines.invariant.2) (inl (onward_some u.cursor.taken (vec_len u.line) c.in_ok-token.field-0 c.in-Some.token c.in-Some.is e.onward));
     }
 
-pub returns-then-not-begin-line : goal.returns-then-not-begin-line
-returns-then-not-begin-line c =
-    let v = c.read-line.new.self in
-    let u = c.begin-line.new.self in
-    let e = c.in-ok-token.ensures in
-    let b = c.if-not-begin-line.ensures in
-    let ns = listed c.read-line.new.names in
-    let t = turned_none c.args.categories.now _ ns ns (text_ahead v) c.in-ok-token.field-0 c.in-default.is e.turned in
+pub returns-then-not-begin_line : goal.returns-then-not-begin_line
+returns-then-not-begin_line c =
+    let v = c.read_line.new.self in
+    let u = c.begin_line.new.self in
+    let e = c.in_ok-token.ensures in
+    let b = c.if-not-begin_line.ensures in
+    let ns = listed c.read_line.new.names in
+    let t = turned_none c.args.categories.now _ ns ns (text_ahead v) c.in_ok-token.field-0 c.in_default.is e.turned in
     let h = none_answered (text_place u) _ c.args.categories.now ns (text_ahead u) (sym c.lines.invariant.0 ∙ t ∙ ap (ahead_of c.args.categories.now ns) (sym b.ahead)) b.test.1 in
     record {
       answer = h.0;
