@@ -1,7 +1,8 @@
 -- The parts of the open conditionals, by what is done at the end of the list that holds them.
-use Rattle.std.proofs.Common.{◌≡◌, ◌-◌, ◌<◌, ltb, List, [], ◌∷◌, ◌++◌, map, reverse, length, get_or, set, is_some, Some, None, vec_items, vec_len, Option, sym, ap, ◌∙◌, arith, Bor}
+use Rattle.std.proofs.Common.{◌≡◌, ◌-◌, ◌<◌, ltb, List, [], ◌∷◌, ◌++◌, map, reverse, length, get_or, set, is_some, Some, None, vec_items, vec_len, Option, sym, ap, ◌∙◌, arith}
+use denote.Ref.{MutBor}
 use Rattle.std.specs.Option.{option_map, option_to_list}
-use Rattle.std.specs.Slice.{IsGetResult}
+use Rattle.std.specs.List.{ItemMut}
 use Rattle.std.proofs.lemmas.List.{length-reverse}
 use Rattle.pending.specs.declared.conditional.Conditional.{Conditional}
 use Rattle.pending.specs.declared.conditionals.Conditionals.{Conditionals}
@@ -28,7 +29,7 @@ part_none xs h = ap (option_map part_in) (none_last xs h) ∙ front_map part_in 
 pub part_some : (xs : List Conditional) (c : Conditional) → 0 < length xs → c ≡ get_or xs (length xs - 1) c → Some (part_in c) ≡ front (map part_in (reverse xs))
 part_some xs c h e = ap (option_map part_in) (some_last xs c h e) ∙ front_map part_in (reverse xs)
 
-pub part_lent : (s : Conditionals) (r : Option (Bor Conditional)) → IsGetResult (vec_items s.opened) 0 (vec_len s.opened - 1) r → option_map (λ x. part_in x.now) r ≡ front (parts_of s)
+pub part_lent : (s : Conditionals) (r : Option (MutBor Conditional)) → ItemMut (vec_items s.opened) 0 (vec_len s.opened - 1) r → option_map (λ x. part_in x.now) r ≡ front (parts_of s)
 part_lent s None h = part_none (vec_items s.opened) (omega (arith, h.3))
 part_lent s (Some x) h = part_some (vec_items s.opened) x.now h.3.0 (h.1 ∙ ap (λ n. get_or (vec_items s.opened) (n - 1) x.now) s.opened.ok.0)
 

@@ -10,5 +10,5 @@ pub returns : goal.returns
 returns c =
     let s = c.args.self.now in (
       same_read (name_of c.last_mut.result) _ (with_innermost s) _ s (λ w. same_conditionals (with_item s.opened (vec_len s.opened - 1) w) _ s.few _ s.room) (same_conditionals s.opened _ s.few _ s.room),
-      part_lent s c.last_mut.result c.last_mut.ensures.item,
+      record { lent = tt; part = part_lent s c.last_mut.result c.last_mut.ensures.item },
     )

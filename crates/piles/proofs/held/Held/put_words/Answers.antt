@@ -10,20 +10,20 @@ use Rattle.piles.proofs.held.Held.put_words.Goals as goal
 pub loop-word-init : goal.loop-word-init
 loop-word-init c =
     let v = c.args.self.now.tokens in
-    let e : iter_rest (rev_source c.into-iter-word-iterator.result) ≡ c.args.words.now = ap (λ r. iter_rest (rev_source r)) c.into-iter-word-iterator.ensures.into-iter-gives ∙ ap iter_rest c.rev-word-items.ensures.source ∙ c.iter.ensures.rest in
+    let e : iter_rest (rev_source c.into_iter-word-iterator.result) ≡ c.args.words.now = ap (λ r. iter_rest (rev_source r)) c.into_iter-word-iterator.ensures.into_iter_gives ∙ ap iter_rest c.rev-word-items.ensures.source ∙ c.iter.ensures.rest in
     (tt, tt, ap (λ l. tokens_in l ++ held_tokens c.args.self.now) e, omega (arith, c.requires, v.ok.0, length-reverse (vec_items v), ap length e))
 
-pub loop-word-preserved-in-Some-from-word : goal.loop-word-preserved-in-Some-from-word
-loop-word-preserved-in-Some-from-word c =
+pub loop-word-preserved-in-Some-from_word : goal.loop-word-preserved-in-Some-from_word
+loop-word-preserved-in-Some-from_word c =
     let v = c.loop-word.self.tokens in
-    let w = c.push-reserved.new.self in
+    let w = c.push_reserved.new.self in
     let rest = iter_rest (rev_source c.loop-word.word-iterator) in
     let less = iter_rest (rev_source c.next.new.self) in
     let e = c.in-Some.ensures.steps in
-    let m : vec_len w ≤ vec_len v + 1 = omega (arith, c.push-reserved.ensures.len) in (
+    let m : vec_len w ≤ vec_len v + 1 = omega (arith, c.push_reserved.ensures.len) in (
       tt,
       tt,
-      word_over rest less c.in-Some.word.now (vec_items v) (vec_items w) (tokens_in c.args.words.now ++ held_tokens c.args.self.now) c.in-Some-from-word.token e c.in-Some-from-word.ensures.value c.push-reserved.ensures.items c.loop-word.invariant.2,
+      word_over rest less c.in-Some.word.now (vec_items v) (vec_items w) (tokens_in c.args.words.now ++ held_tokens c.args.self.now) c.in-Some-from_word.token e c.in-Some-from_word.ensures.value c.push_reserved.ensures.items c.loop-word.invariant.2,
       length_over rest less c.in-Some.word.now (vec_len v) (vec_len w) e m c.loop-word.invariant.3,
     )
 
@@ -36,7 +36,7 @@ loop-word-preserved c =
     let m : vec_len v ≤ vec_len v + 1 = omega arith in (
       tt,
       tt,
-      word_skipped rest less c.in-Some.word.now (held_tokens c.loop-word.self) (tokens_in c.args.words.now ++ held_tokens c.args.self.now) e c.in-default.ensures.value c.loop-word.invariant.2,
+      word_skipped rest less c.in-Some.word.now (held_tokens c.loop-word.self) (tokens_in c.args.words.now ++ held_tokens c.args.self.now) e c.in_default.ensures.value c.loop-word.invariant.2,
       length_over rest less c.in-Some.word.now (vec_len v) (vec_len v) e m c.loop-word.invariant.3,
     )
 
