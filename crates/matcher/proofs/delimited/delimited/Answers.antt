@@ -44,70 +44,70 @@ run-init g c =
 pub settle-requires : goal.settle-requires
 settle-requires g c =
     let v = c.run.tokens in
-    let w = c.push-reserved.new.self in
+    let w = c.push_reserved.new.self in
     let start = c.len-start.result in
     let u = drop start (vec_items v) in
-    let t = c.in-ok-token.token in
+    let t = c.in_ok-token.token in
     let i = c.run.invariant in
-    let e : c.behind.result.now ≡ u ++ t ∷ [] = c.behind.ensures ∙ ap (drop start) c.as-slice.ensures.value ∙ pushed_from v w t start (omega (arith, i.6)) c.push-reserved.ensures.items in
+    let e : c.behind.result.now ≡ u ++ t ∷ [] = c.behind.ensures ∙ ap (drop start) c.as_slice.ensures.value ∙ pushed_from v w t start (omega (arith, i.6)) c.push_reserved.ensures.items in
     let d = delimiter_in c.args.words.now in
     record {
       marked = fresh c.args.terms.long d u t c.behind.result.now e c.run.at c.run.depth (omega (arith, long_from v start, i.6)) i.5 i.1 i.2 i.3;
       short = omega (arith, ap length e, length_push u t, long_from v start, i.7, i.4, i.6, c.requires.wide.1);
     }
 
-pub returns-in-err-token : goal.returns-in-err-token
-returns-in-err-token g c =
-    let t = c.in-err-token.ensures in
+pub returns-in_err-token : goal.returns-in_err-token
+returns-in_err-token g c =
+    let t = c.in_err-token.ensures in
     let i = c.run.invariant in
-    let p = err_from_is_err_and c.from-residual.result c.from-residual.ensures.1 in
+    let p = err_from_is_err_and c.from_residual.result c.from_residual.ensures.1 in
     record {
-      goes = λ q u. rw (p.1, p.2) (fails _ _ _ _ _ (i.0 q u) (unread _ _ _ _ _ (in_run q _ _) _ _ (listed c.needed.new.names) c.needed.new.source c.in-err-token.field-0.0 t.takes t.reads));
+      goes = λ q u. rw (p.1, p.2) (fails _ _ _ _ _ (i.0 q u) (unread _ _ _ _ _ (in_run q _ _) _ _ (listed c.needed.new.names) c.needed.new.source c.in_err-token.field-0.0 t.takes t.reads));
       fits = rw p.1 tt;
       kept = ap (λ (z : ℕ). take z (vec_items c.run.tokens)) (sym c.len-start.ensures) ∙ i.8;
       grown = omega (arith, c.len-start.ensures, i.6);
       capacity = i.9;
     }
 
-pub returns-in-default : goal.returns-in-default
-returns-in-default g c =
+pub returns-in_default : goal.returns-in_default
+returns-in_default g c =
     let v = c.run.tokens in
-    let w = c.push-reserved.new.self in
+    let w = c.push_reserved.new.self in
     let start = c.len-start.result in
     let u = drop start (vec_items v) in
     let x = drop start (vec_items w) in
-    let t = c.in-ok-token.token in
+    let t = c.in_ok-token.token in
     let i = c.run.invariant in
     let long = c.args.terms.long in
     let d = delimiter_in c.args.words.now in
-    let k = c.in-ok-token.ensures in
-    let b : c.behind.result.now ≡ x = c.behind.ensures ∙ ap (drop start) c.as-slice.ensures.value in
-    let e : x ≡ u ++ t ∷ [] = pushed_from v w t start (omega (arith, i.6)) c.push-reserved.ensures.items in
+    let k = c.in_ok-token.ensures in
+    let b : c.behind.result.now ≡ x = c.behind.ensures ∙ ap (drop start) c.as_slice.ensures.value in
+    let e : x ≡ u ++ t ∷ [] = pushed_from v w t start (omega (arith, i.6)) c.push_reserved.ensures.items in
     let h : c.run.at ≤ length u = omega (arith, long_from v start, i.6) in
-    let none : deeper 0 (settled_from d (take c.run.at x) (drop c.run.at x)) ≡ None = subst (λ (z : List Token). deeper 0 (settled_from d (take c.run.at z) (drop c.run.at z)) ≡ None) b c.in-default.ensures in
+    let none : deeper 0 (settled_from d (take c.run.at x) (drop c.run.at x)) ≡ None = subst (λ (z : List Token). deeper 0 (settled_from d (take c.run.at z) (drop c.run.at z)) ≡ None) b c.in_default.ensures in
     record {
       goes = λ p o. rw c.place.ensures (refuses _ _ _ _ long Unmatched (onward _ _ _ _ long (i.0 p o) (read _ _ _ _ long (in_run p d u) _ _ (listed c.needed.new.names) c.needed.new.source t k.takes k.reads)) (unmatched_x long d u t x e c.run.at c.run.depth h i.5 i.1 i.2 i.3 p none));
       fits = tt;
-      kept = ap (λ (z : ℕ). take z (vec_items w)) (sym c.len-start.ensures) ∙ pushed_before v w t start (omega (arith, i.6)) c.push-reserved.ensures.items ∙ i.8;
-      grown = omega (arith, c.len-start.ensures, i.6, c.push-reserved.ensures.len);
-      capacity = c.push-reserved.ensures.capacity ∙ i.9;
+      kept = ap (λ (z : ℕ). take z (vec_items w)) (sym c.len-start.ensures) ∙ pushed_before v w t start (omega (arith, i.6)) c.push_reserved.ensures.items ∙ i.8;
+      grown = omega (arith, c.len-start.ensures, i.6, c.push_reserved.ensures.len);
+      capacity = c.push_reserved.ensures.capacity ∙ i.9;
     }
 
 pub returns-in-Some-hindrance : goal.returns-in-Some-hindrance
 unfolding Found
 returns-in-Some-hindrance g c =
     let v = c.run.tokens in
-    let w = c.push-reserved.new.self in
+    let w = c.push_reserved.new.self in
     let start = c.len-start.result in
     let u = drop start (vec_items v) in
     let x = drop start (vec_items w) in
-    let t = c.in-ok-token.token in
+    let t = c.in_ok-token.token in
     let i = c.run.invariant in
     let long = c.args.terms.long in
     let d = delimiter_in c.args.words.now in
-    let k = c.in-ok-token.ensures in
-    let b : c.behind.result.now ≡ x = c.behind.ensures ∙ ap (drop start) c.as-slice.ensures.value in
-    let e : x ≡ u ++ t ∷ [] = pushed_from v w t start (omega (arith, i.6)) c.push-reserved.ensures.items in
+    let k = c.in_ok-token.ensures in
+    let b : c.behind.result.now ≡ x = c.behind.ensures ∙ ap (drop start) c.as_slice.ensures.value in
+    let e : x ≡ u ++ t ∷ [] = pushed_from v w t start (omega (arith, i.6)) c.push_reserved.ensures.items in
     let h : c.run.at ≤ length u = omega (arith, long_from v start, i.6) in
     let m = c.in-Some.next in
     let f : Found d c.run.at m x = subst (Found d c.run.at m) b c.in-Some.ensures in
@@ -117,31 +117,31 @@ returns-in-Some-hindrance g c =
     record {
       goes = λ p o. rw c.place-in-Some-hindrance.ensures (refuses _ _ _ _ long r (onward _ _ _ _ long (i.0 p o) (read _ _ _ _ long (in_run p d u) _ _ (listed c.needed.new.names) c.needed.new.source t k.takes k.reads)) (fed_then long d u t x e c.run.at c.run.depth h i.5 i.1 i.2 i.3 m f.0 f.1 p c.args.width n c.requires.width (omega (arith, o.0, o.1)) ∙ ap (by _) bad));
       fits = tt;
-      kept = ap (λ (z : ℕ). take z (vec_items w)) (sym c.len-start.ensures) ∙ pushed_before v w t start (omega (arith, i.6)) c.push-reserved.ensures.items ∙ i.8;
-      grown = omega (arith, c.len-start.ensures, i.6, c.push-reserved.ensures.len);
-      capacity = c.push-reserved.ensures.capacity ∙ i.9;
+      kept = ap (λ (z : ℕ). take z (vec_items w)) (sym c.len-start.ensures) ∙ pushed_before v w t start (omega (arith, i.6)) c.push_reserved.ensures.items ∙ i.8;
+      grown = omega (arith, c.len-start.ensures, i.6, c.push_reserved.ensures.len);
+      capacity = c.push_reserved.ensures.capacity ∙ i.9;
     }
 
 pub run-preserved : goal.run-preserved
 unfolding Found
 run-preserved g c =
     let v = c.run.tokens in
-    let w = c.push-reserved.new.self in
+    let w = c.push_reserved.new.self in
     let start = c.len-start.result in
     let u = drop start (vec_items v) in
     let x = drop start (vec_items w) in
-    let t = c.in-ok-token.token in
+    let t = c.in_ok-token.token in
     let i = c.run.invariant in
     let long = c.args.terms.long in
     let d = delimiter_in c.args.words.now in
-    let k = c.in-ok-token.ensures in
-    let b : c.behind.result.now ≡ x = c.behind.ensures ∙ ap (drop start) c.as-slice.ensures.value in
-    let e : x ≡ u ++ t ∷ [] = pushed_from v w t start (omega (arith, i.6)) c.push-reserved.ensures.items in
+    let k = c.in_ok-token.ensures in
+    let b : c.behind.result.now ≡ x = c.behind.ensures ∙ ap (drop start) c.as_slice.ensures.value in
+    let e : x ≡ u ++ t ∷ [] = pushed_from v w t start (omega (arith, i.6)) c.push_reserved.ensures.items in
     let h : c.run.at ≤ length u = omega (arith, long_from v start, i.6) in
     let m = c.in-Some.next in
     let f : Found d c.run.at m x = subst (Found d c.run.at m) b c.in-Some.ensures in
     let n : ℕ = c.args.terms.counted + (m.at + m.depth) + c.args.terms.few in
-    let free : hindrance long m.par n ≡ None = sym c.in-default-hindrance.ensures in
+    let free : hindrance long m.par n ≡ None = sym c.in_default-hindrance.ensures in
     let ok = unhindered long m.par n free in
     let len : length x ≡ vec_len w - start = long_from w start in
     let other : eqb (length x) (m.at + c.args.width) ≡ false = ne_eqb (length x) (m.at + c.args.width) (λ q. c.if-len-start.false (omega (arith, q, len, c.len.ensures))) in
@@ -152,42 +152,42 @@ run-preserved g c =
       told_then long d u t x e c.run.at c.run.depth h i.5 i.1 i.2 i.3 m f.0 f.1 ∙ ok.0,
       ok.1,
       f.0.small,
-      omega (arith, f.0.within, len, i.6, c.push-reserved.ensures.len),
-      omega (arith, most, len, c.requires.width, i.6, c.push-reserved.ensures.len, (λ (q : ◌≡◌ (c.len.result - start) (m.at + c.args.width)). c.if-len-start.false q), c.len.ensures),
-      pushed_before v w t start (omega (arith, i.6)) c.push-reserved.ensures.items ∙ i.8,
-      c.push-reserved.ensures.capacity ∙ i.9,
+      omega (arith, f.0.within, len, i.6, c.push_reserved.ensures.len),
+      omega (arith, most, len, c.requires.width, i.6, c.push_reserved.ensures.len, (λ (q : ◌≡◌ (c.len.result - start) (m.at + c.args.width)). c.if-len-start.false q), c.len.ensures),
+      pushed_before v w t start (omega (arith, i.6)) c.push_reserved.ensures.items ∙ i.8,
+      c.push_reserved.ensures.capacity ∙ i.9,
     )
 
 pub returns-then-len-start : goal.returns-then-len-start
 unfolding Found
 returns-then-len-start g c =
     let v = c.run.tokens in
-    let w = c.push-reserved.new.self in
+    let w = c.push_reserved.new.self in
     let start = c.len-start.result in
     let u = drop start (vec_items v) in
     let x = drop start (vec_items w) in
-    let t = c.in-ok-token.token in
+    let t = c.in_ok-token.token in
     let i = c.run.invariant in
     let long = c.args.terms.long in
     let d = delimiter_in c.args.words.now in
-    let k = c.in-ok-token.ensures in
-    let b : c.behind.result.now ≡ x = c.behind.ensures ∙ ap (drop start) c.as-slice.ensures.value in
-    let e : x ≡ u ++ t ∷ [] = pushed_from v w t start (omega (arith, i.6)) c.push-reserved.ensures.items in
+    let k = c.in_ok-token.ensures in
+    let b : c.behind.result.now ≡ x = c.behind.ensures ∙ ap (drop start) c.as_slice.ensures.value in
+    let e : x ≡ u ++ t ∷ [] = pushed_from v w t start (omega (arith, i.6)) c.push_reserved.ensures.items in
     let h : c.run.at ≤ length u = omega (arith, long_from v start, i.6) in
     let m = c.in-Some.next in
     let f : Found d c.run.at m x = subst (Found d c.run.at m) b c.in-Some.ensures in
     let n : ℕ = c.args.terms.counted + (m.at + m.depth) + c.args.terms.few in
     let z = c.truncate.new.self in
-    let free : hindrance long m.par n ≡ None = sym c.in-default-hindrance.ensures in
+    let free : hindrance long m.par n ≡ None = sym c.in_default-hindrance.ensures in
     let ok = unhindered long m.par n free in
     let len : length x ≡ vec_len w - start = long_from w start in
     let all : eqb (length x) (m.at + c.args.width) ≡ true = eq-eqb (length x) (m.at + c.args.width) (omega (arith, len, c.if-len-start.true, c.len.ensures)) in
     let cut : take m.at x ≡ drop (vec_len c.args.tokens.now) (vec_items z) = sym (drop-take start m.at (vec_items w)) ∙ ap (drop start) (sym c.truncate.ensures.items) ∙ ap (λ (q : ℕ). drop q (vec_items z)) c.len-start.ensures in
-    let short : start + m.at ≤ vec_len w = omega (arith, f.0.within, len, i.6, c.push-reserved.ensures.len) in
+    let short : start + m.at ≤ vec_len w = omega (arith, f.0.within, len, i.6, c.push_reserved.ensures.len) in
     record {
       goes = λ p o. onward _ _ _ _ long (i.0 p o) (turned _ _ _ _ long (read _ _ _ _ long (in_run p d u) _ _ (listed c.needed.new.names) c.needed.new.source t k.takes k.reads) (fed_then long d u t x e c.run.at c.run.depth h i.5 i.1 i.2 i.3 m f.0 f.1 p c.args.width n c.requires.width (omega (arith, o.0, o.1)) ∙ ap (by _) free ∙ cond-true (eqb (length x) (m.at + c.args.width)) _ _ all ∙ ap (λ (q : List Token). ended p (stripped q) m.at) cut));
       fits = (omega (arith, ok.1), omega (arith, short, c.truncate.ensures.len, c.len-start.ensures));
-      kept = ap (λ (q : ℕ). take q (vec_items z)) (sym c.len-start.ensures) ∙ ap (take start) c.truncate.ensures.items ∙ take-take start (start + m.at) (vec_items w) (omega arith) ∙ pushed_before v w t start (omega (arith, i.6)) c.push-reserved.ensures.items ∙ i.8;
+      kept = ap (λ (q : ℕ). take q (vec_items z)) (sym c.len-start.ensures) ∙ ap (take start) c.truncate.ensures.items ∙ take-take start (start + m.at) (vec_items w) (omega arith) ∙ pushed_before v w t start (omega (arith, i.6)) c.push_reserved.ensures.items ∙ i.8;
       grown = omega (arith, short, c.truncate.ensures.len, c.len-start.ensures);
-      capacity = c.truncate.ensures.capacity ∙ c.push-reserved.ensures.capacity ∙ i.9;
+      capacity = c.truncate.ensures.capacity ∙ c.push_reserved.ensures.capacity ∙ i.9;
     }

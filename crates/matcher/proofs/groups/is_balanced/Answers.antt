@@ -10,10 +10,10 @@ use Rattle.matcher.proofs.groups.is_balanced.Goals as goal
 step : (ts : List Token) (n i : ℕ) (o : Option ℕ) → i < length ts → passed (Some n) (get_or ts i (Name 0)) ≡ o → deeper n (drop i ts) ≡ deeper_from o (drop (i + 1) ts)
 step ts n i o h e = ap (deeper_from (Some n)) (drop_more ts i (Name 0) h) ∙ ap (λ (q : Option ℕ). deeper_from q (drop (i + 1) ts)) e
 
-pub returns-in-default : goal.returns-in-default
-returns-in-default c =
+pub returns-in_default : goal.returns-in_default
+returns-in_default c =
     let ts = c.args.tokens.now in
-    let e = c.tokens.invariant.0 ∙ step ts c.tokens.depth c.tokens.token-index None c.tokens-test.true (sym c.in-default.ensures) ∙ deeper_none (drop (c.tokens.token-index + 1) ts) in
+    let e = c.tokens.invariant.0 ∙ step ts c.tokens.depth c.tokens.token-index None c.tokens-test.true (sym c.in_default.ensures) ∙ deeper_none (drop (c.tokens.token-index + 1) ts) in
     sym (ap is_zero e)
 
 pub tokens-preserved : goal.tokens-preserved

@@ -11,17 +11,17 @@ both a b c e f = rw (e, f)
 pub returns-then-count-lt2 : goal.returns-then-count-lt2
 returns-then-count-lt2 c = sym (group_short c.args.tokens.now c.if-count-lt2.true)
 
-pub returns-then-not-is-open : goal.returns-then-not-is-open
-returns-then-not-is-open c =
+pub returns-then-not-is_open : goal.returns-then-not-is_open
+returns-then-not-is_open c =
     let ts = c.args.tokens.now in
-    sym (group_is ts (Name 0) c.if-count-lt2.false ∙ and_left (is_open (get_or ts 0 (Name 0))) _ (sym c.if-not-is-open.ensures))
+    sym (group_is ts (Name 0) c.if-count-lt2.false ∙ and_left (is_open (get_or ts 0 (Name 0))) _ (sym c.if-not-is_open.ensures))
 
-pub returns-then-not-is-close : goal.returns-then-not-is-close
-returns-then-not-is-close c =
+pub returns-then-not-is_close : goal.returns-then-not-is_close
+returns-then-not-is_close c =
     let ts = c.args.tokens.now in
-    sym (group_is ts (Name 0) c.if-count-lt2.false ∙ and_right (is_open (get_or ts 0 (Name 0))) _ (and_left (is_close (get_or ts (length ts - 1) (Name 0))) _ (sym c.if-not-is-close.ensures)))
+    sym (group_is ts (Name 0) c.if-count-lt2.false ∙ and_right (is_open (get_or ts 0 (Name 0))) _ (and_left (is_close (get_or ts (length ts - 1) (Name 0))) _ (sym c.if-not-is_close.ensures)))
 
 pub returns : goal.returns
 returns c =
     let ts = c.args.tokens.now in
-    c.is-balanced.ensures ∙ sym (group_is ts (Name 0) c.if-count-lt2.false ∙ both (is_open (get_or ts 0 (Name 0))) (is_close (get_or ts (length ts - 1) (Name 0))) (is_balanced (take (length ts - 1 - 1) (drop 1 ts))) (sym c.if-not-is-open.ensures) (sym c.if-not-is-close.ensures))
+    c.is_balanced.ensures ∙ sym (group_is ts (Name 0) c.if-count-lt2.false ∙ both (is_open (get_or ts 0 (Name 0))) (is_close (get_or ts (length ts - 1) (Name 0))) (is_balanced (take (length ts - 1 - 1) (drop 1 ts))) (sym c.if-not-is_open.ensures) (sym c.if-not-is_close.ensures))

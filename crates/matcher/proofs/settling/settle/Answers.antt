@@ -66,9 +66,9 @@ delimiter-preserved c =
       (λ _. omega (arith, c.if-mark-gt0.false)),
     )
 
-pub returns-in-default : goal.returns-in-default
+pub returns-in_default : goal.returns-in_default
 unfolding At
-returns-in-default c =
+returns-in_default c =
     let i = c.delimiter.invariant in
     let u = c.args.run.now in
     let at = c.delimiter.mark.at in
@@ -80,7 +80,7 @@ returns-in-default c =
       | then-mark-gt0-via-then-mark-gt0 w ↦ and_left (is_balanced (take at u)) (is_front (drop at u) d) (deep_unbalanced d u at c.delimiter.mark.depth here.0.deep w.if-mark-gt0.true)
       | then-mark-gt0-via-else-mark-gt0+then-not-stands w ↦ untrue u d _ at c.delimiter.j _ l i.1 (sym w.if-not-stands.ensures)
     ] in
-    turn_none d u c.args.from.at c.delimiter.mark (Name 0) (settled_from d (take c.args.from.at u) (drop c.args.from.at u)) here.0 (omega (arith, l)) here.1 un (sym c.in-default.ensures)
+    turn_none d u c.args.from.at c.delimiter.mark (Name 0) (settled_from d (take c.args.from.at u) (drop c.args.from.at u)) here.0 (omega (arith, l)) here.1 un (sym c.in_default.ensures)
 
 pub returns-after-delimiter : goal.returns-after-delimiter
 unfolding At

@@ -31,57 +31,57 @@ group-init g c =
 pub group-preserved : goal.group-preserved
 group-preserved g c =
     let v = c.group.tokens in
-    let w = c.push-reserved.new.self in
+    let w = c.push_reserved.new.self in
     let start = c.len-start.result in
     let inner = drop start (vec_items v) in
-    let t = c.in-ok-token.token in
+    let t = c.in_ok-token.token in
     let m = c.in-Some.deeper in
     let long = c.args.terms.long in
     let n : ℕ = c.args.terms.counted + (c.len.result - start + 3 + m) + c.args.terms.few in
     let i = c.group.invariant in
     let deep = i.1 in
     let to = sym c.in-Some.ensures in
-    let free : hindrance long (is_par t) n ≡ None = ap (λ (b : Bool). hindrance long b n) (sym c.is-par.ensures) ∙ sym c.in-default-hindrance.ensures in
+    let free : hindrance long (is_par t) n ≡ None = ap (λ (b : Bool). hindrance long b n) (sym c.is_par.ensures) ∙ sym c.in_default-hindrance.ensures in
     let ok = unhindered long (is_par t) n free in
-    let e = pushed_from v w t start i.4 c.push-reserved.ensures.items in
-    let k = c.in-ok-token.ensures in (
+    let e = pushed_from v w t start i.4 c.push_reserved.ensures.items in
+    let k = c.in_ok-token.ensures in (
       (λ p u.
           let f : feed long (in_group p inner) t ≡ on (in_group p (drop start (vec_items w))) = group_on long p inner c.group.depth t deep m n to i.2 (omega (arith, u.0, u.1, long_from v start, length_push inner t, c.len.ensures)) ∙ ap (by (on (in_group p (inner ++ t ∷ [])))) free ∙ ap (λ xs. on (in_group p xs)) (sym e) in
           onward _ _ _ _ long (i.0 p u) (turned _ _ _ _ long (read _ _ _ _ long (in_group p inner) _ _ (listed c.needed.new.names) c.needed.new.source t k.takes k.reads) f)),
       ap (deeper 0) e ∙ group_deeper long (record { finished = []; counted = 0; later = [] }) inner c.group.depth t deep m to,
       subst (Permitted long) (sym e) (group_permitted long (record { finished = []; counted = 0; later = [] }) inner c.group.depth t deep i.2 ok.0),
-      omega (arith, ok.1, c.push-reserved.ensures.len, c.len.ensures, i.4),
-      omega (arith, c.push-reserved.ensures.len, i.4),
-      pushed_before v w t start i.4 c.push-reserved.ensures.items ∙ i.5,
-      c.push-reserved.ensures.capacity ∙ i.6,
+      omega (arith, ok.1, c.push_reserved.ensures.len, c.len.ensures, i.4),
+      omega (arith, c.push_reserved.ensures.len, i.4),
+      pushed_before v w t start i.4 c.push_reserved.ensures.items ∙ i.5,
+      c.push_reserved.ensures.capacity ∙ i.6,
     )
 
-pub returns-in-err-token : goal.returns-in-err-token
-returns-in-err-token g c =
-    let t = c.in-err-token.ensures in
+pub returns-in_err-token : goal.returns-in_err-token
+returns-in_err-token g c =
+    let t = c.in_err-token.ensures in
     let i = c.group.invariant in
-    let p = err_from_is_err_and c.from-residual.result c.from-residual.ensures.1 in
+    let p = err_from_is_err_and c.from_residual.result c.from_residual.ensures.1 in
     record {
-      goes = λ q u. rw (p.1, p.2) (fails _ _ _ _ _ (i.0 q u) (unread _ _ _ _ _ (in_group q _) _ _ (listed c.needed.new.names) c.needed.new.source c.in-err-token.field-0.0 t.takes t.reads));
+      goes = λ q u. rw (p.1, p.2) (fails _ _ _ _ _ (i.0 q u) (unread _ _ _ _ _ (in_group q _) _ _ (listed c.needed.new.names) c.needed.new.source c.in_err-token.field-0.0 t.takes t.reads));
       fits = rw p.1 tt;
       kept = ap (λ (k : ℕ). take k (vec_items c.group.tokens)) (sym c.len-start.ensures) ∙ i.5;
       grown = omega (arith, c.len-start.ensures, i.4);
       capacity = i.6;
     }
 
-pub returns-in-default : goal.returns-in-default
-returns-in-default g c =
+pub returns-in_default : goal.returns-in_default
+returns-in_default g c =
     let v = c.group.tokens in
     let start = c.len-start.result in
     let inner = drop start (vec_items v) in
-    let t = c.in-ok-token.token in
+    let t = c.in_ok-token.token in
     let long = c.args.terms.long in
     let i = c.group.invariant in
-    let k = c.in-ok-token.ensures in
+    let k = c.in_ok-token.ensures in
     record {
       goes = λ p u.
           let f : feed long (in_group p inner) t ≡ ended p (drop (vec_len c.args.tokens.now) (vec_items v)) (vec_len v - vec_len c.args.tokens.now + 2) =
-          group_closes long p inner c.group.depth t i.1 (sym c.in-default.ensures)
+          group_closes long p inner c.group.depth t i.1 (sym c.in_default.ensures)
           ∙ ap (λ (n : ℕ). ended p inner (n + 2)) (long_from v start)
           ∙ ap (λ (n : ℕ). ended p (drop n (vec_items v)) (vec_len v - n + 2)) c.len-start.ensures in
           onward _ _ _ _ long (i.0 p u) (turned _ _ _ _ long (read _ _ _ _ long (in_group p inner) _ _ (listed c.needed.new.names) c.needed.new.source t k.takes k.reads) f);
@@ -96,15 +96,15 @@ returns-in-Some-hindrance g c =
     let v = c.group.tokens in
     let start = c.len-start.result in
     let inner = drop start (vec_items v) in
-    let t = c.in-ok-token.token in
+    let t = c.in_ok-token.token in
     let m = c.in-Some.deeper in
     let long = c.args.terms.long in
     let n : ℕ = c.args.terms.counted + (c.len.result - start + 3 + m) + c.args.terms.few in
     let i = c.group.invariant in
     let to = sym c.in-Some.ensures in
     let r = c.in-Some-hindrance.refusal in
-    let bad : hindrance long (is_par t) n ≡ Some r = ap (λ (b : Bool). hindrance long b n) (sym c.is-par.ensures) ∙ sym c.in-Some-hindrance.ensures in
-    let k = c.in-ok-token.ensures in
+    let bad : hindrance long (is_par t) n ≡ Some r = ap (λ (b : Bool). hindrance long b n) (sym c.is_par.ensures) ∙ sym c.in-Some-hindrance.ensures in
+    let k = c.in_ok-token.ensures in
     record {
       goes = λ p u.
           let f = group_on long p inner c.group.depth t i.1 m n to i.2 (omega (arith, u.0, u.1, long_from v start, length_push inner t, c.len.ensures)) ∙ ap (by (on (in_group p (inner ++ t ∷ [])))) bad in

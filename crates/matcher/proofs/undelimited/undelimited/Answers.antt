@@ -16,10 +16,10 @@ use Rattle.matcher.proofs.undelimited.undelimited.Goals as goal
 counts : (a f : ℕ) (b : Bool) (k x y : ℕ) → x ≡ a → y ≡ f → k ≡ cond b 2 1 → x + cond b 2 1 + y ≡ a + k + f
 counts a f b k x y e g h = rw (e, g, h)
 
-pub returns-in-err-token : goal.returns-in-err-token
-returns-in-err-token g c =
-    let t = c.in-err-token.ensures in
-    let e = err_from_is_err_and c.from-residual.result c.from-residual.ensures.1 in
+pub returns-in_err-token : goal.returns-in_err-token
+returns-in_err-token g c =
+    let t = c.in_err-token.ensures in
+    let e = err_from_is_err_and c.from_residual.result c.from_residual.ensures.1 in
     record {
       goes = λ p u. rw (e.1, e.2) (t.goes c.args.terms.long p);
       fits = rw e.1 tt;
@@ -28,12 +28,12 @@ returns-in-err-token g c =
       capacity = refl;
     }
 
-pub returns-then-is-close : goal.returns-then-is-close
-returns-then-is-close g c =
-    let k = c.in-ok-token.ensures in
+pub returns-then-is_close : goal.returns-then-is_close
+returns-then-is_close g c =
+    let k = c.in_ok-token.ensures in
     let long = c.args.terms.long in
     record {
-      goes = λ p u. rw c.place.ensures (refuses _ _ _ _ long Unmatched (k.goes long p) (skip_closes long p c.in-ok-token.token k.plain (sym c.if-is-close.ensures)));
+      goes = λ p u. rw c.place.ensures (refuses _ _ _ _ long Unmatched (k.goes long p) (skip_closes long p c.in_ok-token.token k.plain (sym c.if-is_close.ensures)));
       fits = tt;
       kept = all_before c.args.tokens.now _ refl;
       grown = omega arith;
@@ -42,14 +42,14 @@ returns-then-is-close g c =
 
 pub returns-in-Some : goal.returns-in-Some
 returns-in-Some g c =
-    let k = c.in-ok-token.ensures in
+    let k = c.in_ok-token.ensures in
     let long = c.args.terms.long in
-    let t = c.in-ok-token.token in
+    let t = c.in_ok-token.token in
     let n : ℕ = c.args.terms.counted + c.least.result + c.args.terms.few in
     let r = c.in-Some.refusal in
-    let bad : hindrance long (is_par t) n ≡ Some r = ap (λ (b : Bool). hindrance long b n) (sym c.is-par.ensures) ∙ sym c.in-Some.ensures in
+    let bad : hindrance long (is_par t) n ≡ Some r = ap (λ (b : Bool). hindrance long b n) (sym c.is_par.ensures) ∙ sym c.in-Some.ensures in
     record {
-      goes = λ p u. rw c.place-in-Some.ensures (refuses _ _ _ _ long r (k.goes long p) (skip_next long p t k.plain (sym c.if-is-close.ensures) (is_open t) refl n (counts _ _ (is_open t) c.least.result p.counted (fewest p.later) u.0 u.1 c.least.ensures.value) ∙ ap (by _) bad));
+      goes = λ p u. rw c.place-in-Some.ensures (refuses _ _ _ _ long r (k.goes long p) (skip_next long p t k.plain (sym c.if-is_close.ensures) (is_open t) refl n (counts _ _ (is_open t) c.least.result p.counted (fewest p.later) u.0 u.1 c.least.ensures.value) ∙ ap (by _) bad));
       fits = tt;
       kept = all_before c.args.tokens.now _ refl;
       grown = omega arith;
@@ -58,41 +58,41 @@ returns-in-Some g c =
 
 pub returns : goal.returns
 returns g c =
-    let k = c.in-ok-token.ensures in
+    let k = c.in_ok-token.ensures in
     let v = c.args.tokens.now in
-    let w = c.push-reserved.new.self in
+    let w = c.push_reserved.new.self in
     let long = c.args.terms.long in
-    let t = c.in-ok-token.token in
+    let t = c.in_ok-token.token in
     let n : ℕ = c.args.terms.counted + c.least.result + c.args.terms.few in
-    let free : hindrance long (is_par t) n ≡ None = ap (λ (b : Bool). hindrance long b n) (sym c.is-par.ensures) ∙ sym c.in-default.ensures in
-    let shut : is_open t ≡ false = sym c.if-is-open.ensures in
+    let free : hindrance long (is_par t) n ≡ None = ap (λ (b : Bool). hindrance long b n) (sym c.is_par.ensures) ∙ sym c.in_default.ensures in
+    let shut : is_open t ≡ false = sym c.if-is_open.ensures in
     let one : c.least.result ≡ 1 = c.least.ensures.value ∙ ap (λ (b : Bool). cond b 2 1) shut in
     let ok = unhindered long (is_par t) n free in
-    let e : drop (vec_len v) (vec_items w) ≡ t ∷ [] = pushed_from v w t (vec_len v) (omega arith) c.push-reserved.ensures.items ∙ ap (λ (xs : List Token). xs ++ t ∷ []) (none_from v (vec_len v) refl) in
+    let e : drop (vec_len v) (vec_items w) ≡ t ∷ [] = pushed_from v w t (vec_len v) (omega arith) c.push_reserved.ensures.items ∙ ap (λ (xs : List Token). xs ++ t ∷ []) (none_from v (vec_len v) refl) in
     record {
-      goes = λ p u. turned _ _ _ _ long (k.goes long p) (skip_next long p t k.plain (sym c.if-is-close.ensures) false shut n (omega (arith, u.0, u.1, one)) ∙ ap (by _) free ∙ ap (λ (xs : List Token). ended p xs 1) (sym e));
-      fits = (omega (arith, ok.1, one), omega (arith, c.push-reserved.ensures.len));
-      kept = pushed_before v w t (vec_len v) (omega arith) c.push-reserved.ensures.items ∙ all_before v _ refl;
-      grown = omega (arith, c.push-reserved.ensures.len);
-      capacity = c.push-reserved.ensures.capacity;
+      goes = λ p u. turned _ _ _ _ long (k.goes long p) (skip_next long p t k.plain (sym c.if-is_close.ensures) false shut n (omega (arith, u.0, u.1, one)) ∙ ap (by _) free ∙ ap (λ (xs : List Token). ended p xs 1) (sym e));
+      fits = (omega (arith, ok.1, one), omega (arith, c.push_reserved.ensures.len));
+      kept = pushed_before v w t (vec_len v) (omega arith) c.push_reserved.ensures.items ∙ all_before v _ refl;
+      grown = omega (arith, c.push_reserved.ensures.len);
+      capacity = c.push_reserved.ensures.capacity;
     }
 
-pub returns-then-is-open : goal.returns-then-is-open
-returns-then-is-open g c =
-    let k = c.in-ok-token.ensures in
-    let m = c.in-ok-group.ensures in
+pub returns-then-is_open : goal.returns-then-is_open
+returns-then-is_open g c =
+    let k = c.in_ok-token.ensures in
+    let m = c.in_ok-group.ensures in
     let v = c.args.tokens.now in
     let w = c.group.new.tokens in
     let long = c.args.terms.long in
-    let t = c.in-ok-token.token in
+    let t = c.in_ok-token.token in
     let n : ℕ = c.args.terms.counted + c.least.result + c.args.terms.few in
-    let free : hindrance long (is_par t) n ≡ None = ap (λ (b : Bool). hindrance long b n) (sym c.is-par.ensures) ∙ sym c.in-default.ensures in
-    let shut : is_open t ≡ true = sym c.if-is-open.ensures in
+    let free : hindrance long (is_par t) n ≡ None = ap (λ (b : Bool). hindrance long b n) (sym c.is_par.ensures) ∙ sym c.in_default.ensures in
+    let shut : is_open t ≡ true = sym c.if-is_open.ensures in
     let two : c.least.result ≡ 2 = c.least.ensures.value ∙ ap (λ (b : Bool). cond b 2 1) shut in
     let e : vec_len w - vec_len v + 2 ≡ c.len.result - c.len-start.result + 2 = omega (arith, c.len.ensures, c.len-start.ensures) in
     record {
       goes = λ p u.
-          onward _ _ _ _ long (turned _ _ _ _ long (k.goes long p) (skip_next long p t k.plain (sym c.if-is-close.ensures) true shut n (omega (arith, u.0, u.1, two)) ∙ ap (by _) free))
+          onward _ _ _ _ long (turned _ _ _ _ long (k.goes long p) (skip_next long p t k.plain (sym c.if-is_close.ensures) true shut n (omega (arith, u.0, u.1, two)) ∙ ap (by _) free))
           (turned _ _ _ _ long (m.goes p u) (ap (ended p (drop (vec_len v) (vec_items w))) e));
       fits = (omega (arith, m.fits, e), omega (arith, m.grown, e));
       kept = m.kept;
@@ -100,19 +100,19 @@ returns-then-is-open g c =
       capacity = m.capacity;
     }
 
-pub returns-in-err-group : goal.returns-in-err-group
-returns-in-err-group g c =
-    let k = c.in-ok-token.ensures in
-    let m = c.in-err-group.ensures in
+pub returns-in_err-group : goal.returns-in_err-group
+returns-in_err-group g c =
+    let k = c.in_ok-token.ensures in
+    let m = c.in_err-group.ensures in
     let long = c.args.terms.long in
-    let t = c.in-ok-token.token in
+    let t = c.in_ok-token.token in
     let n : ℕ = c.args.terms.counted + c.least.result + c.args.terms.few in
-    let free : hindrance long (is_par t) n ≡ None = ap (λ (b : Bool). hindrance long b n) (sym c.is-par.ensures) ∙ sym c.in-default.ensures in
-    let shut : is_open t ≡ true = sym c.if-is-open.ensures in
+    let free : hindrance long (is_par t) n ≡ None = ap (λ (b : Bool). hindrance long b n) (sym c.is_par.ensures) ∙ sym c.in_default.ensures in
+    let shut : is_open t ≡ true = sym c.if-is_open.ensures in
     let two : c.least.result ≡ 2 = c.least.ensures.value ∙ ap (λ (b : Bool). cond b 2 1) shut in
-    let e = err_from_is_err_and c.from-residual-in-err-group.result c.from-residual-in-err-group.ensures.1 in
+    let e = err_from_is_err_and c.from_residual-in_err-group.result c.from_residual-in_err-group.ensures.1 in
     record {
-      goes = λ p u. rw (e.1, e.2) (fails _ _ _ _ long (turned _ _ _ _ long (k.goes long p) (skip_next long p t k.plain (sym c.if-is-close.ensures) true shut n (omega (arith, u.0, u.1, two)) ∙ ap (by _) free)) (m.goes p u));
+      goes = λ p u. rw (e.1, e.2) (fails _ _ _ _ long (turned _ _ _ _ long (k.goes long p) (skip_next long p t k.plain (sym c.if-is_close.ensures) true shut n (omega (arith, u.0, u.1, two)) ∙ ap (by _) free)) (m.goes p u));
       fits = rw e.1 tt;
       kept = m.kept;
       grown = m.grown;

@@ -16,7 +16,7 @@ returns-in-Parameter c =
 
 pub words-preserved : goal.words-preserved
 words-preserved c =
-    let e = next_is c.args.words.now c.words.at _ _ c.words-test.true c.in-default.is in
+    let e = next_is c.args.words.now c.words.at _ _ c.words-test.true c.in_default.is in
     let i = c.words.invariant in (
       omega (arith, i.0, ap (λ ws. length (delimiter_in ws)) e),
       sym (ap (λ ws. (parameters_of ws).delimiters) e) ∙ i.1,

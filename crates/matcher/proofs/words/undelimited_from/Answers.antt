@@ -9,7 +9,7 @@ use Rattle.matcher.specs.Words.{is_none}
 use Rattle.matcher.proofs.Nexts.{next_is}
 use Rattle.matcher.proofs.Wording.{fewest_cons}
 use Rattle.matcher.proofs.words.undelimited_from.Goals as goal
-use Rattle.matcher.proofs.words.undelimited_from.Goals.{in-Parameter+then-bare, in-Parameter+else-bare, in-default}
+use Rattle.matcher.proofs.words.undelimited_from.Goals.{in-Parameter+then-bare, in-Parameter+else-bare, in_default}
 
 at_parameter : (ws : List ParameterWord) (i : ℕ) (d : ParameterWord) (b : Bool) → i < length ws → get_or ws i d ≡ word.Parameter → b ≡ is_none (delimiter_in (drop (i + 1) ws)) → fewest (parameters_of (drop i ws)).delimiters ≡ cond b 1 0 + fewest (parameters_of (drop (i + 1) ws)).delimiters
 at_parameter ws i d b h e f =
@@ -24,7 +24,7 @@ words-preserved c =
     elim c.match-words-at.branch [
       | in-Parameter+then-bare w ↦ (let e = at_parameter ws c.words.at _ true c.words-test.true w.in-Parameter.is w.if-bare.ensures in (omega (arith, i.0, e, w.count-is), omega (arith, i.1, w.count-is)))
       | in-Parameter+else-bare w ↦ (let e = at_parameter ws c.words.at _ false c.words-test.true w.in-Parameter.is w.if-bare.ensures in (omega (arith, i.0, e, w.count-is), omega (arith, i.1, w.count-is)))
-      | in-default w ↦ (let e = ap (λ us. fewest (parameters_of us).delimiters) (next_is ws c.words.at _ _ c.words-test.true w.in-default.is) in (omega (arith, i.0, e, w.count-is), omega (arith, i.1, w.count-is)))
+      | in_default w ↦ (let e = ap (λ us. fewest (parameters_of us).delimiters) (next_is ws c.words.at _ _ c.words-test.true w.in_default.is) in (omega (arith, i.0, e, w.count-is), omega (arith, i.1, w.count-is)))
     ]
 
 pub returns : goal.returns

@@ -6,15 +6,15 @@ use Rattle.matcher.specs.Spans.{parts_of, all_within}
 use Rattle.matcher.proofs.Parts.{within_push, parts_push}
 use Rattle.matcher.proofs.arguments.Arguments.keep.Goals as goal
 
-pub invariant-of-self : goal.invariant-of-self
-invariant-of-self c =
+pub invariant_of-self : goal.invariant_of-self
+invariant_of-self c =
     let a = c.args.self.now in
     let n = vec_len a.tokens in (
       a.room,
       (
-        omega (arith, a.places, c.push-reserved.ensures.capacity),
+        omega (arith, a.places, c.push_reserved.ensures.capacity),
         (
-          subst (λ (ss : List Span). all_within n ss ≡ true) (sym c.push-reserved.ensures.items) (within_push n (vec_items a.spans) (record { from = c.args.from; to = c.len-to.result }) (omega (arith, c.requires.from, c.len-to.ensures)) (omega (arith, c.len-to.ensures)) a.within),
+          subst (λ (ss : List Span). all_within n ss ≡ true) (sym c.push_reserved.ensures.items) (within_push n (vec_items a.spans) (record { from = c.args.from; to = c.len-to.result }) (omega (arith, c.requires.from, c.len-to.ensures)) (omega (arith, c.len-to.ensures)) a.within),
           tt,
         ),
       ),
@@ -28,7 +28,7 @@ returns c =
     let to = c.len-to.result in
     let e : to ≡ length ts = c.len-to.ensures ∙ a.tokens.ok.0 in
     record {
-      arguments = ap (parts_of ts) c.push-reserved.ensures.items ∙ parts_push ts (vec_items a.spans) (record { from = from; to = to }) ∙ ap (λ (r : List Token). parts_of ts (vec_items a.spans) ++ r ∷ []) (ap (λ (i : ℕ). take (i - from) (drop from ts)) e ∙ take_rest ts from);
+      arguments = ap (parts_of ts) c.push_reserved.ensures.items ∙ parts_push ts (vec_items a.spans) (record { from = from; to = to }) ∙ ap (λ (r : List Token). parts_of ts (vec_items a.spans) ++ r ∷ []) (ap (λ (i : ℕ). take (i - from) (drop from ts)) e ∙ take_rest ts from);
       tokens = refl;
-      spans = c.push-reserved.ensures.len;
+      spans = c.push_reserved.ensures.len;
     }

@@ -11,33 +11,33 @@ use Rattle.matcher.proofs.Grouped.{group_long, group_part}
 use Rattle.matcher.proofs.Parts.{within_push, parts_push}
 use Rattle.matcher.proofs.arguments.Arguments.keep_stripped.Goals as goal
 
-pub is-group-requires : goal.is-group-requires
-is-group-requires c =
+pub is_group-requires : goal.is_group-requires
+is_group-requires c =
     let a = c.args.self.now in
-    omega (arith, ap length (c.behind.ensures ∙ ap (drop c.args.from) c.as-slice.ensures.value), long_from a.tokens c.args.from, c.requires.short)
+    omega (arith, ap length (c.behind.ensures ∙ ap (drop c.args.from) c.as_slice.ensures.value), long_from a.tokens c.args.from, c.requires.short)
 
-pub invariant-of-self : goal.invariant-of-self
-invariant-of-self c =
+pub invariant_of-self : goal.invariant_of-self
+invariant_of-self c =
     let a = c.args.self.now in
     let n = vec_len a.tokens in
     let from = c.args.from in
-    let g : is_group (drop from (vec_items a.tokens)) ≡ true = sym (c.if-not-is-group.ensures ∙ ap is_group (c.behind.ensures ∙ ap (drop from) c.as-slice.ensures.value)) in
+    let g : is_group (drop from (vec_items a.tokens)) ≡ true = sym (c.if-not-is_group.ensures ∙ ap is_group (c.behind.ensures ∙ ap (drop from) c.as_slice.ensures.value)) in
     let l : 2 ≤ n - from = omega (arith, group_long (drop from (vec_items a.tokens)) g, long_from a.tokens from) in (
       a.room,
       (
-        omega (arith, a.places, c.push-reserved.ensures.capacity),
+        omega (arith, a.places, c.push_reserved.ensures.capacity),
         (
-          subst (λ (ss : List Span). all_within n ss ≡ true) (sym c.push-reserved.ensures.items) (within_push n (vec_items a.spans) (record { from = from + 1; to = c.len-to.result - 1 }) (omega (arith, l, c.len-to.ensures)) (omega (arith, c.len-to.ensures)) a.within),
+          subst (λ (ss : List Span). all_within n ss ≡ true) (sym c.push_reserved.ensures.items) (within_push n (vec_items a.spans) (record { from = from + 1; to = c.len-to.result - 1 }) (omega (arith, l, c.len-to.ensures)) (omega (arith, c.len-to.ensures)) a.within),
           tt,
         ),
       ),
     )
 
-pub returns-then-not-is-group : goal.returns-then-not-is-group
-returns-then-not-is-group c =
+pub returns-then-not-is_group : goal.returns-then-not-is_group
+returns-then-not-is_group c =
     let a = c.args.self.now in
     let run = drop c.args.from (vec_items a.tokens) in
-    let g : is_group run ≡ false = sym (c.if-not-is-group.ensures ∙ ap is_group (c.behind.ensures ∙ ap (drop c.args.from) c.as-slice.ensures.value)) in
+    let g : is_group run ≡ false = sym (c.if-not-is_group.ensures ∙ ap is_group (c.behind.ensures ∙ ap (drop c.args.from) c.as_slice.ensures.value)) in
     record {
       arguments = c.keep.ensures.arguments ∙ ap (λ (r : List Token). arguments_of a ++ r ∷ []) (sym (cond-false (is_group run) _ _ g));
       tokens = c.keep.ensures.tokens;
@@ -51,9 +51,9 @@ returns c =
     let from = c.args.from in
     let to = c.len-to.result in
     let e : to ≡ length ts = c.len-to.ensures ∙ a.tokens.ok.0 in
-    let g : is_group (drop from ts) ≡ true = sym (c.if-not-is-group.ensures ∙ ap is_group (c.behind.ensures ∙ ap (drop from) c.as-slice.ensures.value)) in
+    let g : is_group (drop from ts) ≡ true = sym (c.if-not-is_group.ensures ∙ ap is_group (c.behind.ensures ∙ ap (drop from) c.as_slice.ensures.value)) in
     record {
-      arguments = ap (parts_of ts) c.push-reserved.ensures.items ∙ parts_push ts (vec_items a.spans) (record { from = from + 1; to = to - 1 }) ∙ ap (λ (r : List Token). parts_of ts (vec_items a.spans) ++ r ∷ []) (group_part ts from to (Name 0) e (omega (arith, c.len-to.ensures, c.requires.from)) g);
+      arguments = ap (parts_of ts) c.push_reserved.ensures.items ∙ parts_push ts (vec_items a.spans) (record { from = from + 1; to = to - 1 }) ∙ ap (λ (r : List Token). parts_of ts (vec_items a.spans) ++ r ∷ []) (group_part ts from to (Name 0) e (omega (arith, c.len-to.ensures, c.requires.from)) g);
       tokens = refl;
-      spans = c.push-reserved.ensures.len;
+      spans = c.push_reserved.ensures.len;
     }

@@ -12,8 +12,8 @@ use Rattle.matcher.proofs.Going.{stay_at, onward, turned, fails}
 use Rattle.matcher.proofs.Parts.{within_more}
 use Rattle.matcher.proofs.arguments.Arguments.read.Goals as goal
 
-pub invariant-of-self : goal.invariant-of-self
-invariant-of-self g c =
+pub invariant_of-self : goal.invariant_of-self
+invariant_of-self g c =
     let a = c.args.self.now in (
       omega (arith, a.room, c.undelimited.ensures.capacity),
       (
@@ -25,8 +25,8 @@ invariant-of-self g c =
       ),
     )
 
-pub invariant-of-self-2 : goal.invariant-of-self-2
-invariant-of-self-2 g c =
+pub invariant_of-self-2 : goal.invariant_of-self-2
+invariant_of-self-2 g c =
     let a = c.args.self.now in (
       omega (arith, a.room, c.delimited.ensures.capacity),
       (
@@ -43,14 +43,14 @@ returns-then-width-eq0 g c =
     let a = c.args.self.now in
     let long = c.args.terms.long in
     let w = c.undelimited.new.tokens in
-    let k = c.in-ok-count.ensures in
+    let k = c.in_ok-count.ensures in
     let d = delimiter_in c.args.words.now in
     let none : d ≡ [] = nil_from_length d (omega (arith, c.requires.width, c.if-width-eq0.true)) in
     record {
       goes = λ ds e.
           onward _ _ _ _ long (stay_at _ _ _ _ long _ _ _ _ (at_skipping (arguments_of a) c.args.terms.counted d ds none))
           (turned _ _ _ _ long (k.goes (progress (arguments_of a) c.args.terms.counted ds) (refl, e))
-          (one_more_lem a.tokens w a.spans a.within k.kept (arguments_of c.keep.new.self) (drop (vec_len a.tokens) (vec_items w)) c.args.terms.counted c.in-ok-count.count ds (c.keep.ensures.arguments ∙ ap (λ (i : ℕ). parts_of (vec_items w) (vec_items a.spans) ++ drop i (vec_items w) ∷ []) c.len-start.ensures)));
+          (one_more_lem a.tokens w a.spans a.within k.kept (arguments_of c.keep.new.self) (drop (vec_len a.tokens) (vec_items w)) c.args.terms.counted c.in_ok-count.count ds (c.keep.ensures.arguments ∙ ap (λ (i : ℕ). parts_of (vec_items w) (vec_items a.spans) ++ drop i (vec_items w) ∷ []) c.len-start.ensures)));
       fits = (k.fits.0, omega (arith, k.fits.1, c.requires.held, ap vec_len c.keep.ensures.tokens));
       spans = c.keep.ensures.spans;
     }
@@ -60,14 +60,14 @@ returns g c =
     let a = c.args.self.now in
     let long = c.args.terms.long in
     let w = c.delimited.new.tokens in
-    let k = c.in-ok-count-2.ensures in
+    let k = c.in_ok-count-2.ensures in
     let d = delimiter_in c.args.words.now in
     let some : 0 < length d = omega (arith, c.requires.width, c.if-width-eq0.false) in
     record {
       goes = λ ds e.
           onward _ _ _ _ long (stay_at _ _ _ _ long _ _ _ _ (at_run (arguments_of a) c.args.terms.counted d ds some))
           (turned _ _ _ _ long (k.goes (progress (arguments_of a) c.args.terms.counted ds) (refl, e))
-          (one_more_lem a.tokens w a.spans a.within k.kept (arguments_of c.keep-stripped.new.self) (stripped (drop (vec_len a.tokens) (vec_items w))) c.args.terms.counted c.in-ok-count-2.count ds (c.keep-stripped.ensures.arguments ∙ ap (λ (i : ℕ). parts_of (vec_items w) (vec_items a.spans) ++ stripped (drop i (vec_items w)) ∷ []) c.len-start.ensures)));
-      fits = (k.fits.0, omega (arith, k.fits.1, c.requires.held, ap vec_len c.keep-stripped.ensures.tokens));
-      spans = c.keep-stripped.ensures.spans;
+          (one_more_lem a.tokens w a.spans a.within k.kept (arguments_of c.keep_stripped.new.self) (stripped (drop (vec_len a.tokens) (vec_items w))) c.args.terms.counted c.in_ok-count-2.count ds (c.keep_stripped.ensures.arguments ∙ ap (λ (i : ℕ). parts_of (vec_items w) (vec_items a.spans) ++ stripped (drop i (vec_items w)) ∷ []) c.len-start.ensures)));
+      fits = (k.fits.0, omega (arith, k.fits.1, c.requires.held, ap vec_len c.keep_stripped.ensures.tokens));
+      spans = c.keep_stripped.ensures.spans;
     }
