@@ -1,5 +1,5 @@
 ghost use Rattle.std.specs.Prelude.{◌≡◌, ◌+◌, ◌-◌, ◌≤◌, [], length, take, drop, IfOk, vec_len, vec_capacity, MatchResult};
-ghost use Rattle.tokens.specs.declared.moves.Move.TheVariants.{On};
+ghost use Rattle.matching.specs.Matching.{on};
 ghost use Rattle.names.specs.Spelled.{listed};
 ghost use Rattle.matching.specs.Dividing.{stripped};
 ghost use Rattle.matching.specs.Matching.{Progress, in_run, ended};
@@ -41,7 +41,7 @@ pub(crate) fn delimited<S: Source>(
     requires room { 6145 ≤ vec_capacity tokens.old }
     requires width { width ≡ length (delimiter_in words.now) }
     requires wide { (1 ≤ width) × (width ≤ 2048) }
-    ensures goes { (p : Progress) → Under terms p → MatchResult result (λ n. Leads S.Source.reads S.Source.ahead S.Source.place categories.now terms.long (On (in_run p (delimiter_in words.now) [])) (listed names.old) source.old (ended p (stripped (drop (vec_len tokens.old) tokens.new.items)) n) (listed names.new) source.new) (λ f. Fails S.Source.reads S.Source.ahead S.Source.place categories.now terms.long (On (in_run p (delimiter_in words.now) [])) (listed names.old) source.old f (listed names.new) source.new) }
+    ensures goes { (p : Progress) → Under terms p → MatchResult result (λ n. Leads S.Source.reads S.Source.ahead S.Source.place categories.now terms.long (on (in_run p (delimiter_in words.now) [])) (listed names.old) source.old (ended p (stripped (drop (vec_len tokens.old) tokens.new.items)) n) (listed names.new) source.new) (λ f. Fails S.Source.reads S.Source.ahead S.Source.place categories.now terms.long (on (in_run p (delimiter_in words.now) [])) (listed names.old) source.old f (listed names.new) source.new) }
     ensures fits { IfOk result (λ n. (terms.counted + n + terms.few ≤ 4096) × (vec_len tokens.new ≡ vec_len tokens.old + n)) }
     ensures kept { take (vec_len tokens.old) tokens.new.items ≡ tokens.old.items }
     ensures grown { vec_len tokens.old ≤ vec_len tokens.new }

@@ -1,5 +1,5 @@
 ghost use Rattle.std.specs.Prelude.{◌≡◌, ◌≤◌, length, vec_len, MatchResult};
-ghost use Rattle.tokens.specs.declared.moves.Move.TheVariants.{Out};
+ghost use Rattle.matching.specs.Matching.{out};
 ghost use Rattle.names.specs.Spelled.{listed};
 ghost use Rattle.matching.specs.Dividing.{parameters_of};
 ghost use Rattle.matching.specs.Laws.{parameters_in};
@@ -28,7 +28,7 @@ pub(crate) fn divide<S: Source>(
     requires empty { (vec_len arguments.old.tokens ≡ 0) × (vec_len arguments.old.spans ≡ 0) }
     requires short { length words.now ≤ 2048 }
     requires few { parameters_in words.now ≤ 9 }
-    ensures { MatchResult result (λ _. Leads S.Source.reads S.Source.ahead S.Source.place categories.now long (begin (parameters_of words.now)) (listed names.old) source.old (Out (matched (arguments_of arguments.new))) (listed names.new) source.new) (λ f. Fails S.Source.reads S.Source.ahead S.Source.place categories.now long (begin (parameters_of words.now)) (listed names.old) source.old f (listed names.new) source.new) }
+    ensures { MatchResult result (λ _. Leads S.Source.reads S.Source.ahead S.Source.place categories.now long (begin (parameters_of words.now)) (listed names.old) source.old (out (matched (arguments_of arguments.new))) (listed names.new) source.new) (λ f. Fails S.Source.reads S.Source.ahead S.Source.place categories.now long (begin (parameters_of words.now)) (listed names.old) source.old f (listed names.new) source.new) }
 {
     let mut at = text_before(source, categories, names, words)?;
     let mut counted = 0;

@@ -1,5 +1,5 @@
 ghost use Rattle.std.specs.Prelude.{◌≡◌, ◌+◌, ◌-◌, ◌≤◌, Bool, false, [], take, drop, IfOk, if◌then◌else◌, vec_len, vec_capacity, MatchResult, OnOk};
-ghost use Rattle.tokens.specs.declared.moves.Move.TheVariants.{On};
+ghost use Rattle.matching.specs.Matching.{on};
 ghost use Rattle.names.specs.Spelled.{listed};
 ghost use Rattle.matching.specs.Braces.{is_open, is_blank};
 ghost use Rattle.matching.specs.Matching.{Progress, skipping, in_group, ended, feed};
@@ -22,7 +22,7 @@ fn unblanked<S: Source>(
     categories: &[Category; 256],
     names: &mut Names,
 ) -> Result<Token, MatcherCause>
-    ensures goes { (long : Bool) (p : Progress) → MatchResult result (λ t. Leads S.Source.reads S.Source.ahead S.Source.place categories.now long (On (skipping p)) (listed names.old) source.old (feed long (skipping p) t) (listed names.new) source.new) (λ f. Fails S.Source.reads S.Source.ahead S.Source.place categories.now long (On (skipping p)) (listed names.old) source.old f (listed names.new) source.new) }
+    ensures goes { (long : Bool) (p : Progress) → MatchResult result (λ t. Leads S.Source.reads S.Source.ahead S.Source.place categories.now long (on (skipping p)) (listed names.old) source.old (feed long (skipping p) t) (listed names.new) source.new) (λ f. Fails S.Source.reads S.Source.ahead S.Source.place categories.now long (on (skipping p)) (listed names.old) source.old f (listed names.new) source.new) }
     ensures plain { IfOk result (λ t. is_blank t ≡ false) }
 {
     'blanks: loop {
@@ -44,7 +44,7 @@ fn group<S: Source>(
     requires held { vec_len tokens.old ≤ terms.counted }
     requires fits { terms.counted + 2 + terms.few ≤ 4096 }
     requires room { 6145 ≤ vec_capacity tokens.old }
-    ensures goes { (p : Progress) → Under terms p → MatchResult result (λ _. Leads S.Source.reads S.Source.ahead S.Source.place categories.now terms.long (On (in_group p [])) (listed names.old) source.old (ended p (drop (vec_len tokens.old) tokens.new.items) (vec_len tokens.new - vec_len tokens.old + 2)) (listed names.new) source.new) (λ f. Fails S.Source.reads S.Source.ahead S.Source.place categories.now terms.long (On (in_group p [])) (listed names.old) source.old f (listed names.new) source.new) }
+    ensures goes { (p : Progress) → Under terms p → MatchResult result (λ _. Leads S.Source.reads S.Source.ahead S.Source.place categories.now terms.long (on (in_group p [])) (listed names.old) source.old (ended p (drop (vec_len tokens.old) tokens.new.items) (vec_len tokens.new - vec_len tokens.old + 2)) (listed names.new) source.new) (λ f. Fails S.Source.reads S.Source.ahead S.Source.place categories.now terms.long (on (in_group p [])) (listed names.old) source.old f (listed names.new) source.new) }
     ensures fits { OnOk result (terms.counted + (vec_len tokens.new - vec_len tokens.old + 2) + terms.few ≤ 4096) }
     ensures kept { take (vec_len tokens.old) tokens.new.items ≡ tokens.old.items }
     ensures grown { vec_len tokens.old ≤ vec_len tokens.new }
@@ -85,7 +85,7 @@ pub(crate) fn undelimited<S: Source>(
     requires held { vec_len tokens.old ≤ terms.counted }
     requires fits { terms.counted + terms.few ≤ 8192 }
     requires room { 6145 ≤ vec_capacity tokens.old }
-    ensures goes { (p : Progress) → Under terms p → MatchResult result (λ n. Leads S.Source.reads S.Source.ahead S.Source.place categories.now terms.long (On (skipping p)) (listed names.old) source.old (ended p (drop (vec_len tokens.old) tokens.new.items) n) (listed names.new) source.new) (λ f. Fails S.Source.reads S.Source.ahead S.Source.place categories.now terms.long (On (skipping p)) (listed names.old) source.old f (listed names.new) source.new) }
+    ensures goes { (p : Progress) → Under terms p → MatchResult result (λ n. Leads S.Source.reads S.Source.ahead S.Source.place categories.now terms.long (on (skipping p)) (listed names.old) source.old (ended p (drop (vec_len tokens.old) tokens.new.items) n) (listed names.new) source.new) (λ f. Fails S.Source.reads S.Source.ahead S.Source.place categories.now terms.long (on (skipping p)) (listed names.old) source.old f (listed names.new) source.new) }
     ensures fits { IfOk result (λ n. (terms.counted + n + terms.few ≤ 4096) × (vec_len tokens.new ≤ vec_len tokens.old + n)) }
     ensures kept { take (vec_len tokens.old) tokens.new.items ≡ tokens.old.items }
     ensures grown { vec_len tokens.old ≤ vec_len tokens.new }

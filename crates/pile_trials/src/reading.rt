@@ -25,18 +25,18 @@ pub(crate) fn text(heap: Global, bytes: &[u8]) -> Result<Text, Trial> {
     }
 }
 
-fn write_place(written: &mut String, place: Place) -> Result<(), AllocError> {
+fn write_place(heap: Global, written: &mut String, place: Place) -> Result<(), AllocError> {
     let line = place.line;
     let bytes = place.bytes;
-    let text = format!(in written.allocator(); "@{line}.{bytes}")?;
+    let text = format!(in heap; "@{line}.{bytes}")?;
     written.push_str(text.as_str())
 }
 
-fn write_fault(written: &mut String, fault: PileFault) -> Result<(), AllocError> {
+fn write_fault(heap: Global, written: &mut String, fault: PileFault) -> Result<(), AllocError> {
     let number = fault.number();
-    let text = format!(in written.allocator(); "refused {number}")?;
+    let text = format!(in heap; "refused {number}")?;
     written.push_str(text.as_str())?;
-    write_place(written, fault.place())
+    write_place(heap, written, fault.place())
 }
 
 // What the reads of a source answer up to its end, each with the place then.
@@ -52,14 +52,14 @@ pub(crate) fn traced<S: Source>(
             Ok(Some(token)) => {
                 let word = token.word();
                 written.push_str(format!(in heap; "{word:08x}")?.as_str())?;
-                write_place(&mut written, source.place())?;
+                write_place(heap, &mut written, source.place())?;
             }
             Ok(None) => {
                 written.push_str("end")?;
-                write_place(&mut written, source.place())?;
+                write_place(heap, &mut written, source.place())?;
                 return Ok(written);
             }
-            Err(fault) => write_fault(&mut written, fault)?,
+            Err(fault) => write_fault(heap, &mut written, fault)?,
         }
         written.push_str(" ")?;
     }

@@ -16,8 +16,11 @@ impl From<AllocError> for Trial {
     }
 }
 
-fn write_fault(written: &mut String, fault: PileFault) -> Result<(), AllocError> {
-    let heap = written.allocator();
+fn write_fault(
+    heap: Global,
+    written: &mut String,
+    fault: PileFault,
+) -> Result<(), AllocError> {
     let place = fault.place();
     let number = fault.number();
     let line = place.line;
@@ -33,7 +36,7 @@ pub(crate) fn traced(heap: Global, bytes: &[u8]) -> Result<String, Trial> {
         Ok(text) => text,
         Err(MakeFault::NoMemory) => return Err(Trial::NoMemory),
         Err(MakeFault::Refused(fault)) => {
-            write_fault(&mut written, fault)?;
+            write_fault(heap, &mut written, fault)?;
             return Ok(written);
         }
     };
@@ -50,7 +53,7 @@ pub(crate) fn traced(heap: Global, bytes: &[u8]) -> Result<String, Trial> {
                 return Ok(written);
             }
             Err(fault) => {
-                write_fault(&mut written, fault)?;
+                write_fault(heap, &mut written, fault)?;
                 written.push_str(" ")?;
             }
         }

@@ -9,16 +9,11 @@ use Rattle.matcher.proofs.arguments.Arguments.keep.Goals as goal
 pub invariant_of-self : goal.invariant_of-self
 invariant_of-self c =
     let a = c.args.self.now in
-    let n = vec_len a.tokens in (
-      a.room,
-      (
-        omega (arith, a.places, c.push_reserved.ensures.capacity),
-        (
-          subst (λ (ss : List Span). all_within n ss ≡ true) (sym c.push_reserved.ensures.items) (within_push n (vec_items a.spans) (record { from = c.args.from; to = c.len-to.result }) (omega (arith, c.requires.from, c.len-to.ensures)) (omega (arith, c.len-to.ensures)) a.within),
-          tt,
-        ),
-      ),
-    )
+    let n = vec_len a.tokens in record {
+      room = a.room;
+      places = omega (arith, a.places, c.push_reserved.ensures.capacity);
+      within = subst (λ (ss : List Span). all_within n ss ≡ true) (sym c.push_reserved.ensures.items) (within_push n (vec_items a.spans) (record { from = c.args.from; to = c.len-to.result }) (omega (arith, c.requires.from, c.len-to.ensures)) (omega (arith, c.len-to.ensures)) a.within);
+    }
 
 pub returns : goal.returns
 returns c =

@@ -22,16 +22,11 @@ invariant_of-self c =
     let n = vec_len a.tokens in
     let from = c.args.from in
     let g : is_group (drop from (vec_items a.tokens)) ≡ true = sym (c.if-not-is_group.ensures ∙ ap is_group (c.behind.ensures ∙ ap (drop from) c.as_slice.ensures.value)) in
-    let l : 2 ≤ n - from = omega (arith, group_long (drop from (vec_items a.tokens)) g, long_from a.tokens from) in (
-      a.room,
-      (
-        omega (arith, a.places, c.push_reserved.ensures.capacity),
-        (
-          subst (λ (ss : List Span). all_within n ss ≡ true) (sym c.push_reserved.ensures.items) (within_push n (vec_items a.spans) (record { from = from + 1; to = c.len-to.result - 1 }) (omega (arith, l, c.len-to.ensures)) (omega (arith, c.len-to.ensures)) a.within),
-          tt,
-        ),
-      ),
-    )
+    let l : 2 ≤ n - from = omega (arith, group_long (drop from (vec_items a.tokens)) g, long_from a.tokens from) in record {
+      room = a.room;
+      places = omega (arith, a.places, c.push_reserved.ensures.capacity);
+      within = subst (λ (ss : List Span). all_within n ss ≡ true) (sym c.push_reserved.ensures.items) (within_push n (vec_items a.spans) (record { from = from + 1; to = c.len-to.result - 1 }) (omega (arith, l, c.len-to.ensures)) (omega (arith, c.len-to.ensures)) a.within);
+    }
 
 pub returns-then-not-is_group : goal.returns-then-not-is_group
 returns-then-not-is_group c =

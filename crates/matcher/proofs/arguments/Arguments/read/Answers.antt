@@ -14,29 +14,19 @@ use Rattle.matcher.proofs.arguments.Arguments.read.Goals as goal
 
 pub invariant_of-self : goal.invariant_of-self
 invariant_of-self g c =
-    let a = c.args.self.now in (
-      omega (arith, a.room, c.undelimited.ensures.capacity),
-      (
-        a.places,
-        (
-          within_more (vec_len a.tokens) (vec_len c.undelimited.new.tokens) (vec_items a.spans) c.undelimited.ensures.grown a.within,
-          tt,
-        ),
-      ),
-    )
+    let a = c.args.self.now in record {
+      room = omega (arith, a.room, c.undelimited.ensures.capacity);
+      places = a.places;
+      within = within_more (vec_len a.tokens) (vec_len c.undelimited.new.tokens) (vec_items a.spans) c.undelimited.ensures.grown a.within;
+    }
 
 pub invariant_of-self-2 : goal.invariant_of-self-2
 invariant_of-self-2 g c =
-    let a = c.args.self.now in (
-      omega (arith, a.room, c.delimited.ensures.capacity),
-      (
-        a.places,
-        (
-          within_more (vec_len a.tokens) (vec_len c.delimited.new.tokens) (vec_items a.spans) c.delimited.ensures.grown a.within,
-          tt,
-        ),
-      ),
-    )
+    let a = c.args.self.now in record {
+      room = omega (arith, a.room, c.delimited.ensures.capacity);
+      places = a.places;
+      within = within_more (vec_len a.tokens) (vec_len c.delimited.new.tokens) (vec_items a.spans) c.delimited.ensures.grown a.within;
+    }
 
 pub returns-then-width-eq0 : goal.returns-then-width-eq0
 returns-then-width-eq0 g c =
