@@ -10,7 +10,7 @@
 --   SameState      two states: the same items ahead, tables, groups, conditionals and tasks; how many words definitions have used, and how
 --                  many of the items are put back, may differ
 --   AnswerAlike    such states answer the same calls alike
-use Rattle.std.specs.Prelude.{◌≡◌, ℕ, ◌≤◌, Bool, ◌⊎◌, List, [], ◌∷◌, ◌++◌, map, length}
+use Rattle.std.specs.Prelude.{◌≡◌, ℕ, ◌≤◌, Bool, ◌⊎◌, List, ◌++◌, map, length}
 use Rattle.tokens.specs.declared.token_category.TokenCategory.{TokenCategory}
 use Rattle.tokens.specs.declared.token.Token.{Token}
 use Rattle.tokens.specs.declared.stored.ParameterWord.{ParameterWord}

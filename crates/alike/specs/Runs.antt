@@ -6,7 +6,7 @@
 use Rattle.std.specs.Prelude.{ℕ, Bool, true, false, ◌||◌, List, [], ◌∷◌, Ok, Err, Result, ◌==◌}
 use Rattle.tokens.specs.declared.answer.Answer.{Answer}
 use Rattle.rules.specs.Refusals.{Fault, cause_number}
-use Rattle.rules.specs.States.{State, Stepped}
+use Rattle.rules.specs.States.{State}
 use Rattle.rules.specs.Calling.{Call, perform}
 use Rattle.alike.specs.Same.{SameCall, SameResult}
 

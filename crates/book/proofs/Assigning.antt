@@ -1,5 +1,5 @@
 -- A local assignment, by what it needs.
-use Rattle.std.proofs.Common.{◌≡◌, ℕ, ◌<◌, ◌≤◌, Bool, true, false, cond, ◌&&◌, leb, length, Ok, Err, Result, sym, refl, ap, ◌∙◌}
+use Rattle.std.proofs.Common.{◌≡◌, ℕ, ◌<◌, ◌≤◌, true, false, cond, leb, length, Ok, Err, sym, ap, ◌∙◌}
 use Rattle.std.proofs.lemmas.Bool.{and_from, and_left, and_right, le-leb, lt-leb, cond-true, cond-false}
 use Rattle.tables.specs.Table.{State, put, recorded, needs_record, records, assigned, assign_locally, refused, tried}
 use Rattle.book.specs.declared.fault.BookFault.{BookFault}

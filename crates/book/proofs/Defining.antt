@@ -1,5 +1,5 @@
 -- A definition: its words come after all others, so no meaning held before changes.
-use Rattle.std.proofs.Common.{◌≡◌, ℕ, ◌+◌, ◌-◌, ◌≤◌, Bool, true, false, cond, ◌&&◌, leb, List, [], ◌∷◌, ◌++◌, length, take, drop, Ok, Err, Result, sym, refl, ap, ◌∙◌, subst, arith}
+use Rattle.std.proofs.Common.{◌≡◌, ℕ, ◌+◌, ◌≤◌, Bool, true, false, cond, ◌&&◌, leb, List, ◌++◌, length, take, drop, Ok, Err, Result, sym, refl, ap, ◌∙◌, subst, arith}
 use Rattle.std.proofs.lemmas.List.{drop_at, take_all, drop-append-le, take-append-le, length-drop}
 use Rattle.std.proofs.lemmas.Bool.{and_parts, and_from, leb-true, le-leb}
 use Rattle.tokens.specs.declared.answer.Scope.{Scope}
@@ -15,7 +15,7 @@ use Rattle.book.specs.declared.meaning.Macro as of-macro
 use Rattle.book.specs.declared.meaning.Held.{Held}
 use Rattle.book.specs.declared.meaning.Held.TheVariants.{Plain, Macro}
 use Rattle.book.specs.Faults.{answered}
-use Rattle.book.specs.Meanings.{Means, macro, part, means_of, within}
+use Rattle.book.specs.Meanings.{macro, part, means_of, within}
 use Rattle.book.specs.Scopes.{operation}
 use Rattle.book.proofs.Calling.{state_read, holds_tried}
 

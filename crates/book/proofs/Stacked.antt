@@ -1,10 +1,10 @@
 -- Save records in one list, oldest first, with a base for each group: the innermost base first.
-use Rattle.std.proofs.Common.{◌≡◌, ℕ, zero, suc, ◌+◌, ◌-◌, ◌<◌, ◌≤◌, Bool, true, false, not, ◌&&◌, eqb, ltb, leb, List, [], ◌∷◌, ◌++◌, reverse, length, get_or, take, drop, replicate, vec_items, vec_len, sym, refl, ap, ◌∙◌, subst, arith}
+use Rattle.std.proofs.Common.{◌≡◌, ℕ, zero, suc, ◌+◌, ◌-◌, ◌<◌, ◌≤◌, true, false, not, eqb, ltb, leb, List, [], ◌∷◌, ◌++◌, reverse, length, get_or, take, drop, replicate, vec_items, vec_len, sym, refl, ap, ◌∙◌, subst, arith}
 use Rattle.std.proofs.lemmas.List.{reverse-append, length-reverse, take-append-drop, length-take-le, take_all, drop_all, take-append-le, drop-append-le, length-drop, drop_more}
-use Rattle.std.proofs.lemmas.Bool.{and_parts, and_from, leb-true, le-leb, eqb-true, eq-eqb, ltb-true, lt-ltb}
+use Rattle.std.proofs.lemmas.Bool.{and_parts, and_from, leb-true, le-leb, eqb-true, ltb-true, lt-ltb}
 use Rattle.tables.specs.declared.Entry.{Entry}
 use Rattle.tables.specs.declared.Saved.{Saved}
-use Rattle.tables.specs.Table.{Table, Groups, State, recorded, records_in, records, needs_in, restored, undone}
+use Rattle.tables.specs.Table.{Table, recorded, records_in, records, needs_in, restored, undone}
 use Rattle.book.specs.declared.grouped.Grouped.{Grouped}
 use Rattle.book.specs.Bases.{bounded, groups_of, keys_below}
 use Rattle.book.specs.Tabled.{state_of}

@@ -1,9 +1,7 @@
 -- Beyond their last number, names mean nothing at first and codes have category 12.
-use Rattle.std.proofs.Common.{◌≡◌, ℕ, ◌<◌, ◌≤◌, Bool, true, false, cond, ◌&&◌, ◌||◌, eqb, leb, Some, None, Option, sym, refl, ap, ◌∙◌, arith, lit≤}
+use Rattle.std.proofs.Common.{◌≡◌, ℕ, ◌<◌, ◌≤◌, false, ◌&&◌, ◌||◌, eqb, leb, None, ◌∙◌, arith, lit≤}
 use Rattle.std.proofs.lemmas.Bool.{ne_eqb, cond-false, or_from, and_right, lt-leb}
-use Rattle.tokens.specs.declared.category.Category.{Category}
 use Rattle.tokens.specs.declared.category.Category.TheVariants.{Other}
-use Rattle.book.specs.declared.meaning.Primitive.{Primitive}
 use Rattle.book.specs.Primitives.{primitive_of}
 use Rattle.tokens.specs.Firsts.{first_category, is_letter_code}
 

@@ -1,7 +1,6 @@
 -- What is ahead after a read is what followed the token read.
-use Rattle.std.proofs.Common.{◌≡◌, ℕ, List, [], ◌∷◌, Some, None, Ok, Err, Option, Result, sym, refl, ap, ◌∙◌, arith}
+use Rattle.std.proofs.Common.{◌≡◌, ℕ, List, Some, None, Ok, Err, refl, ap, arith}
 use Rattle.tokens.specs.declared.token.Token.{Token}
-use Rattle.tokens.specs.declared.token.Token.TheVariants as tokens
 use Rattle.lines.specs.Line as line
 use Rattle.lines.specs.Line.{Categories, Item, Pieces, invalid, given, name, pieces}
 use Rattle.lines.proofs.Reading.{Behind, pieces_behind}

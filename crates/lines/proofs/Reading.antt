@@ -2,7 +2,7 @@
 use Rattle.std.proofs.Common.{◌≡◌, ℕ, zero, suc, ◌+◌, List, [], ◌∷◌, drop, sym, refl, ap, ◌∙◌, one-add}
 use Rattle.lines.specs.declared.piece.LineState.{LineState}
 use Rattle.lines.specs.Pieces.{Shown, character, active, named, nothing, refused}
-use Rattle.lines.specs.Line.{Categories, category, piece_of, more_by, taken_of, state_after, Item, ready, rest, left, Pieces, none, invalid, given, name, onward, line, pieces, First}
+use Rattle.lines.specs.Line.{Categories, category, piece_of, more_by, state_after, Item, ready, rest, left, Pieces, none, invalid, given, name, onward, line, pieces, First}
 
 module _ (cs : Categories) where
   line_taken : (bs : List ℕ) (n : ℕ) (s : LineState) (below : List Item) (more : Pieces) → line cs bs n s below more ≡ line cs (drop n bs) 0 s below more

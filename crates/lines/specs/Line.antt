@@ -10,7 +10,7 @@
 --   Pieces      what items give: tokens and names, each with the items behind it, ended by nothing or a refused byte
 --   pieces      the pieces of a list of items, under fixed categories
 --   First       what a line gives, told by its first piece
-use Rattle.std.specs.Prelude.{ℕ, zero, suc, ◌+◌, ◌-◌, Bool, true, false, cond, List, [], ◌∷◌, length, drop, codes, slice_index_or}
+use Rattle.std.specs.Prelude.{ℕ, zero, suc, ◌+◌, Bool, true, false, cond, List, [], ◌∷◌, length, drop, codes, slice_index_or}
 use Rattle.tokens.specs.declared.category.Category.{Category}
 use Rattle.tokens.specs.declared.category.Category.TheVariants.{Escape, Open, Close, Math, Align, EndLine, Parameter, Superscript, Subscript, Ignored, Space, Letter, Other, Active, Comment, Invalid}
 use Rattle.tokens.specs.declared.token_category.TokenCategory.{TokenCategory}

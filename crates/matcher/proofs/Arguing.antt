@@ -1,5 +1,5 @@
 -- One more argument in the space of a call.
-use Rattle.std.proofs.Common.{◌≡◌, ℕ, ◌+◌, ◌<◌, true, List, [], ◌∷◌, ◌++◌, length, take, drop, vec_items, vec_len, Vec, sym, refl, ap, ◌∙◌, arith}
+use Rattle.std.proofs.Common.{◌≡◌, ℕ, ◌+◌, ◌<◌, true, List, [], ◌∷◌, ◌++◌, length, take, vec_items, vec_len, Vec, sym, refl, ap, ◌∙◌, arith}
 use Rattle.tokens.specs.declared.token.Token.{Token}
 use Rattle.matching.specs.Matching.{on}
 use Rattle.matching.specs.Matching.{Progress, skipping, in_run, following, ended}

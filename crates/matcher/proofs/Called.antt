@@ -1,5 +1,5 @@
 -- What a division of a call's tokens says of the call.
-use Rattle.std.proofs.Common.{◌≡◌, ℕ, Bool, List, [], Ok, Err, Result, sym, refl, ap, ◌∙◌, arith}
+use Rattle.std.proofs.Common.{◌≡◌, ℕ, Bool, List, [], Ok, Err, sym, refl, ap, arith}
 use Rattle.tokens.specs.declared.token.Token.{Token}
 use Rattle.matching.specs.Matching.{out}
 use Rattle.tokens.specs.declared.stored.ParameterWord.{ParameterWord}
@@ -12,7 +12,6 @@ use Rattle.driving.specs.declared.status.Status.{Status}
 use Rattle.driving.specs.Streams.{Standing, standing}
 use Rattle.driving.specs.Drives.{Driven, came, ended, failed, stands_at}
 use Rattle.calls.specs.declared.fault.MatcherCause.{MatcherCause}
-use Rattle.calls.specs.declared.fault.MatcherFault.{MatcherFault}
 use Rattle.matcher.specs.Calls.{called, call_answer, Called}
 use Rattle.matcher.specs.Going.{driven, answered, given, ReachedFrom, Leads, Fails}
 

@@ -1,17 +1,16 @@
 -- How readings of a call join.
-use Rattle.std.proofs.Common.{◌≡◌, Bool, List, Ok, Err, sym, refl, ap, ◌∙◌}
+use Rattle.std.proofs.Common.{◌≡◌, Bool, List, Err, refl, ap, ◌∙◌}
 use Rattle.tokens.specs.declared.token.Token.{Token}
-use Rattle.matching.specs.Matching.{on, out}
+use Rattle.matching.specs.Matching.{on}
 use Rattle.lines.specs.Line.{Categories, Item}
 use Rattle.names.specs.Naming.{Spellings}
 use Rattle.sources.specs.declared.fault.Place.{Place}
-use Rattle.sources.specs.declared.fault.PileRefusal.TheVariants.{Ended}
 use Rattle.sources.specs.declared.fault.PileFault.{PileFault}
 use Rattle.sources.specs.declared.fault.PileFault.TheVariants as pile
 use Rattle.matching.specs.declared.refusal.MatcherRefusal.{MatcherRefusal}
-use Rattle.matching.specs.Matching.{Step, Phase, Outcome, matched, refused, refuse, feed}
-use Rattle.driving.specs.Streams.{Stream, nothing, broken, token, Standing, standing, stream, Takes}
-use Rattle.driving.specs.Drives.{Driven, came, ended, failed, drive, stands_at, Reached}
+use Rattle.matching.specs.Matching.{Step, Phase, refuse, feed}
+use Rattle.driving.specs.Streams.{Stream, token, Standing, standing, stream, Takes}
+use Rattle.driving.specs.Drives.{drive, stands_at}
 use Rattle.calls.specs.declared.fault.MatcherCause.{MatcherCause}
 use Rattle.calls.specs.declared.fault.MatcherCause.TheVariants.{Pile, Matcher}
 use Rattle.matcher.specs.Going.{driven, answered, ReachedFrom, Leads, Fails}

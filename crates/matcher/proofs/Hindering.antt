@@ -2,7 +2,7 @@
 use Rattle.std.proofs.Common.{◌≡◌, ℕ, ◌+◌, ◌≤◌, Bool, true, false, cond, not, ◌&&◌, ◌||◌, leb, List, [], ◌∷◌, ◌++◌, length, Some, None, Option, sym, refl, ap, ◌∙◌, arith}
 use Rattle.std.proofs.lemmas.Bool.{leb-true, false≢true}
 use Rattle.tokens.specs.declared.token.Token.{Token}
-use Rattle.matching.specs.Matching.{on, out}
+use Rattle.matching.specs.Matching.{on}
 use Rattle.matching.specs.declared.refusal.MatcherRefusal.{MatcherRefusal}
 use Rattle.matching.specs.declared.refusal.MatcherRefusal.TheVariants.{Par, TooLong}
 use Rattle.matching.specs.Braces.{is_par, has_par, passed, deeper}

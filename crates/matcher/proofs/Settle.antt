@@ -1,12 +1,12 @@
 -- The settled part of tokens, place by place.
-use Rattle.std.proofs.Common.{◌≡◌, ℕ, zero, suc, ◌+◌, ◌<◌, ◌≤◌, Bool, true, false, cond, ◌&&◌, ◌||◌, eqb, ◌⊎◌, List, [], ◌∷◌, ◌++◌, length, get_or, take, drop, Some, None, Option, sym, refl, ap, ◌∙◌, subst, inl, inr, arith}
+use Rattle.std.proofs.Common.{◌≡◌, ℕ, zero, suc, ◌+◌, ◌<◌, ◌≤◌, Bool, true, false, ◌&&◌, ◌||◌, eqb, ◌⊎◌, List, [], ◌∷◌, ◌++◌, length, get_or, take, drop, Some, None, Option, sym, refl, ap, ◌∙◌, subst, inl, inr, arith}
 use Rattle.std.proofs.lemmas.List.{take_more, drop_all}
 use Rattle.std.proofs.lemmas.Bool.{cond-true, cond-false, cond_both, and_from, and_left, ne_eqb, cases_lt}
 use Rattle.tokens.specs.declared.token.Token.{Token}
 use Rattle.matcher.specs.declared.mark.Mark.{Mark}
 use Rattle.std.specs.Option.{option_map}
 use Rattle.matching.specs.Braces.{is_open, is_close, lowered, is_par, has_par, same_token, is_front, passed, deeper, is_zero, is_balanced}
-use Rattle.matching.specs.Matching.{settled_from, settled}
+use Rattle.matching.specs.Matching.{settled_from}
 use Rattle.matching.proofs.Depths.{deeper_push, par_append}
 use Rattle.matcher.specs.Marks.{begins, Marked, moved}
 use Rattle.matcher.proofs.Nexts.{next_is}

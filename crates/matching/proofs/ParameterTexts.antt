@@ -1,7 +1,6 @@
 -- A parameter text and its parameters.
 use Rattle.std.proofs.Common.{◌≡◌, false, List, [], ◌∷◌, length, refl, ap, arith}
 use Rattle.std.proofs.lemmas.Bool.{or_parts, or_from}
-use Rattle.tokens.specs.declared.token.Token.{Token}
 use Rattle.tokens.specs.declared.stored.ParameterWord.{ParameterWord}
 use Rattle.tokens.specs.declared.stored.ParameterWord.TheVariants as word
 use Rattle.matching.specs.Braces.{is_close, has_close}

@@ -7,7 +7,7 @@ use Rattle.tokens.specs.declared.token.Token.TheVariants.{Name, Character}
 use Rattle.tokens.specs.Words.{token_of}
 use Rattle.names.specs.Naming.{Spellings, taken_in}
 use Rattle.sources.specs.declared.fault.PileRefusal.TheVariants.{NoToken, PutBackFull}
-use Rattle.piles.specs.Inserting.{known, known_if, known_token, both_of, tokens_of, put, refused, insert_by, insert, bad_by, first_bad, tokens_in}
+use Rattle.piles.specs.Inserting.{known_if, known_token, both_of, tokens_of, put, refused, insert_by, insert, bad_by, first_bad, tokens_in}
 
 module _ (k : ℕ) (more : Option ℕ) where
   by_known : (o : Option Token) → is_some o ≡ true → bad_by k o more ≡ more

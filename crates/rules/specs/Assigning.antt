@@ -8,7 +8,7 @@
 --   subject_feed    \catcode's quote and the token behind it
 --   byte_of         the code that this token stands for: a character's, an active one's, that of a name of one byte
 --   number_feed     an optional = and digits up to 15, with the token behind them
-use Rattle.std.specs.Prelude.{ℕ, ◌+◌, ◌*◌, Bool, true, false, cond, ◌||◌, List, [], ◌∷◌, length, Some, None, Ok, Err, Option, Result, nat_le, nat_lt}
+use Rattle.std.specs.Prelude.{ℕ, ◌+◌, ◌*◌, Bool, true, false, cond, ◌||◌, List, [], ◌∷◌, Some, None, Ok, Err, Option, Result, nat_le, nat_lt}
 use Rattle.tokens.specs.declared.token.Token.{Token}
 use Rattle.tokens.specs.declared.token.Token.TheVariants.{Name, Character}
 use Rattle.matching.specs.Matching.{Move}

@@ -6,7 +6,7 @@
 --   open, close    a host group
 --   Call, perform  a call, and what it answers and leaves
 --   answers_of, state_after   the answers of a list of calls, and the state that it leaves
-use Rattle.std.specs.Prelude.{ℕ, Bool, true, false, cond, List, [], ◌∷◌, map, length, Ok, Err, Result, ◌==◌, nat_lt}
+use Rattle.std.specs.Prelude.{ℕ, false, cond, List, [], ◌∷◌, map, length, Ok, Err, Result, ◌==◌, nat_lt}
 use Rattle.tokens.specs.declared.token_category.TokenCategory.TheVariants.{Space, Other}
 use Rattle.tokens.specs.declared.token.Token.TheVariants.{Character}
 use Rattle.tokens.specs.declared.stored.BodyWord.{BodyWord}

@@ -5,7 +5,7 @@
 --   Defined        what comes of it: parameter text and body, or that it is broken, or too long
 --   room           one word more, if 2,048 are not there yet
 --   definition_feed one token: braces and digits are explicit characters, category 6 goes by meaning
-use Rattle.std.specs.Prelude.{ℕ, zero, suc, ◌+◌, Bool, cond, ◌&&◌, List, [], ◌∷◌, ◌++◌, length, Some, None, Option, nat_le, nat_lt}
+use Rattle.std.specs.Prelude.{ℕ, zero, suc, ◌+◌, cond, ◌&&◌, List, [], ◌∷◌, ◌++◌, length, Some, None, Option, nat_le, nat_lt}
 use Rattle.tokens.specs.declared.token.Token.{Token}
 use Rattle.matching.specs.Matching.{Move}
 use Rattle.matching.specs.Matching.{on, out}

@@ -5,7 +5,6 @@
 use Rattle.std.specs.Prelude.{◌≡◌, ℕ, zero, suc, List, [], ◌∷◌, Ok, Err, codes, Result}
 use Rattle.tokens.specs.declared.token_category.TokenCategory.TheVariants as category
 use Rattle.tokens.specs.declared.category.Category.TheVariants as code
-use Rattle.tokens.specs.declared.token.Token.{Token}
 use Rattle.tokens.specs.declared.token.Token.TheVariants.{Name, Character}
 use Rattle.tokens.specs.declared.answer.GroupKind.TheVariants.{Brace}
 use Rattle.tokens.specs.declared.answer.Scope.TheVariants.{Local, Global}
@@ -16,7 +15,7 @@ use Rattle.matching.specs.declared.refusal.MatcherRefusal.TheVariants.{Par}
 use Rattle.sources.specs.Texts.{made_lines, whole}
 use Rattle.driving.specs.declared.status.Status.TheVariants.{Matching}
 use Rattle.rules.specs.Refusals.{Fault, matcher}
-use Rattle.rules.specs.States.{State, new, Stepped}
+use Rattle.rules.specs.States.{State, new}
 use Rattle.rules.specs.Stepping.{step}
 
 abbrev pub sheet : List ℕ → State

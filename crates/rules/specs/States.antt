@@ -13,7 +13,7 @@
 --   categories_of   the categories of all codes
 --   meanings_of     the meanings of all names
 --   ahead          the tokens ahead of a reader
-use Rattle.std.specs.Prelude.{ℕ, List, [], ◌∷◌, ◌++◌, map, Ok, Err, Result}
+use Rattle.std.specs.Prelude.{ℕ, List, [], ◌++◌, map, Ok, Err, Result}
 use Rattle.std.specs.List.{range_with_len}
 use Rattle.tokens.specs.declared.token.Token.{Token}
 use Rattle.tokens.specs.declared.answer.Answer.{Answer}

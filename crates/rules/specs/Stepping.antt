@@ -6,12 +6,11 @@
 --   unexpandable   by the newest task; where a token waits, this one is put back
 --   obeyed, ruled  what a primitive does, what a meaning does
 --   step           the step
-use Rattle.std.specs.Prelude.{ℕ, Bool, true, false, cond, ◌||◌, List, [], ◌∷◌, Ok, Err, Result}
+use Rattle.std.specs.Prelude.{ℕ, true, false, cond, List, [], ◌∷◌, Ok, Err, Result}
 use Rattle.tokens.specs.declared.token_category.TokenCategory.{TokenCategory}
 use Rattle.tokens.specs.declared.token_category.TokenCategory.TheVariants as category
 use Rattle.tokens.specs.declared.token.Token.{Token}
-use Rattle.tokens.specs.declared.token.Token.TheVariants.{Name, Character}
-use Rattle.tokens.specs.declared.answer.GroupKind.{GroupKind}
+use Rattle.tokens.specs.declared.token.Token.TheVariants.{Character}
 use Rattle.tokens.specs.declared.answer.GroupKind.TheVariants as group
 use Rattle.tokens.specs.declared.answer.Answer.{Answer}
 use Rattle.tokens.specs.declared.answer.Answer.TheVariants.{Delivered, Opened, Closed, End, Working}

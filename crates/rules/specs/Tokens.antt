@@ -7,7 +7,6 @@
 --   is_digit        whether it is the explicit digit of a number
 --   same_meaning    whether two meanings agree: macros do if long, parameter text and body do
 use Rattle.std.specs.Prelude.{ℕ, ◌+◌, ◌-◌, Bool, true, false, cond, not, ◌&&◌, List, [], ◌∷◌, Some, None, Option, ◌==◌, nat_le}
-use Rattle.tokens.specs.declared.token_category.TokenCategory.{TokenCategory}
 use Rattle.tokens.specs.declared.token.Token.{Token}
 use Rattle.tokens.specs.declared.token.Token.TheVariants.{Name, Character}
 use Rattle.tokens.specs.declared.stored.ParameterWord.{ParameterWord}

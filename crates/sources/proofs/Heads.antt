@@ -1,5 +1,5 @@
 -- What a read answers and leaves, by what was ahead.
-use Rattle.std.proofs.Common.{◌≡◌, ℕ, ◌<◌, ◌⊎◌, List, [], ◌∷◌, Some, None, Ok, Err, vec_items, vec_len, Option, Result, sym, refl, ap, ◌∙◌, inl, inr, arith}
+use Rattle.std.proofs.Common.{◌≡◌, ℕ, ◌<◌, ◌⊎◌, List, [], Some, None, Ok, Err, vec_items, vec_len, Option, Result, sym, refl, ap, ◌∙◌, inl, inr, arith}
 use lib.ListN
 use Rattle.tokens.specs.declared.token.Token.{Token}
 use Rattle.lines.specs.Line.{Categories, Item}
@@ -8,7 +8,6 @@ use Rattle.sources.specs.declared.fault.Place.{Place}
 use Rattle.sources.specs.declared.fault.LineFault.{LineFault}
 use Rattle.sources.specs.declared.fault.PileFault.{PileFault}
 use Rattle.sources.specs.declared.fault.PileFault.TheVariants.{Line}
-use Rattle.sources.specs.declared.fault.ReadRefusal.{ReadRefusal}
 use Rattle.sources.specs.declared.text.Text.{Text}
 use Rattle.sources.specs.Ahead.{Ahead, none, fault, token, ahead_of, head_answer, head_names, head_items, Turned, Unnamed, Onward}
 use Rattle.sources.specs.Texts.{place_in}

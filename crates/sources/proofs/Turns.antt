@@ -1,5 +1,5 @@
 -- What one piece of a line does to the tokens ahead.
-use Rattle.std.proofs.Common.{◌≡◌, ℕ, ◌+◌, ◌-◌, ◌<◌, ◌≤◌, List, [], ◌∷◌, length, take, drop, Some, None, Ok, Err, Option, Result, sym, refl, ap, ◌∙◌, arith}
+use Rattle.std.proofs.Common.{◌≡◌, ℕ, ◌+◌, ◌-◌, ◌<◌, ◌≤◌, List, length, take, drop, Option, Result, refl, ap, ◌∙◌, arith}
 use Rattle.std.proofs.lemmas.List.{drop-drop, take_rest, length-drop}
 use Rattle.tokens.specs.declared.token.Token.{Token}
 use Rattle.lines.specs.declared.piece.LineState.{LineState}
@@ -10,7 +10,7 @@ use Rattle.lines.proofs.Reading.{first_piece}
 use Rattle.lines.proofs.Bounds.{taken_within, taken_some}
 use Rattle.names.specs.Naming.{Spellings, Entered, known, refused, enter, names_after}
 use Rattle.sources.specs.declared.fault.ReadRefusal.{ReadRefusal}
-use Rattle.sources.specs.Ahead.{Ahead, fault, token, by_number, numbered, ahead_of, piece_token, piece_names, entered_token, Unnamed, Turned}
+use Rattle.sources.specs.Ahead.{by_number, numbered, ahead_of, piece_token, piece_names, entered_token, Unnamed, Turned}
 
 module _ (cs : Categories) where
   name_turned : (ns : Spellings) (is : List Item) (e : Entered) → Turned cs (by_number e ns is (λ ms. numbered (pieces cs is) ms)) (entered_token e) (names_after ns e) is

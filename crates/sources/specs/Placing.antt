@@ -1,12 +1,10 @@
 -- The place in a text, by how far its lines are begun and the last of them is read.
-use Rattle.std.specs.Prelude.{◌≡◌, ℕ, zero, suc, ◌+◌, ◌-◌, ◌<◌, ◌≤◌, true, false, cond, ◌⊎◌, List, [], ◌∷◌, ◌++◌, map, length, take, drop, ◌==◌, slice_index_or, refl}
-use Rattle.std.proofs.Common.{sym, ap, ◌∙◌, inl, inr, add-zero, zero-add, add_assoc, add-one, arith}
-use Rattle.std.proofs.lemmas.List.{length-drop, get_or-map, length_push, length-append, length-map}
+use Rattle.std.specs.Prelude.{◌≡◌, ℕ, zero, suc, ◌+◌, ◌-◌, ◌<◌, ◌≤◌, ◌⊎◌, List, [], ◌∷◌, map, length, take, drop, ◌==◌, slice_index_or, refl}
+use Rattle.std.proofs.Common.{ap, ◌∙◌, inl, inr, zero-add, arith}
+use Rattle.std.proofs.lemmas.List.{length-drop, get_or-map, length_push, length-map}
 use Rattle.std.proofs.lemmas.Bool.{le-leb, lt-leb, cond_both}
 use Rattle.lines.specs.declared.piece.LineState.{LineState}
-use Rattle.lines.specs.declared.piece.LineState.TheVariants.{NewLine}
-use Rattle.lines.specs.Line.{Item, ready, rest, left}
-use Rattle.sources.specs.declared.fault.Place.{Place}
+use Rattle.lines.specs.Line.{Item, left}
 use Rattle.sources.specs.Ahead.{extent}
 use Rattle.sources.specs.Texts.{with_first, lines_of, kept_before, trimmed, made, made_lines, whole, total, place_at, place_in, Begun}
 

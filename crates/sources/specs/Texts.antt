@@ -9,9 +9,8 @@
 --   Begun       how far a text's lines are begun
 --   place_in     the place in a text, by its lines and the items ahead: where the last byte stands that is taken or dropped
 use Rattle.std.specs.Prelude.{◌≡◌, ℕ, zero, suc, ◌+◌, ◌-◌, ◌≤◌, cond, List, [], ◌∷◌, ◌++◌, map, length, drop, ◌==◌, nat_le, slice_index_or}
-use Rattle.lines.specs.declared.piece.LineState.{LineState}
 use Rattle.lines.specs.declared.piece.LineState.TheVariants.{NewLine}
-use Rattle.lines.specs.Line.{Item, rest, left}
+use Rattle.lines.specs.Line.{Item, rest}
 use Rattle.sources.specs.declared.fault.Place.{Place}
 use Rattle.sources.specs.Ahead.{extent}
 

@@ -10,7 +10,7 @@
 --   written        the diary with a call's lines: Opened writes an opening, Closed strikes the newest opening left and all local assignments
 --                  after it, Assigned writes the name or the code; all else writes nothing
 --   kept           the diary of a list of calls, from a state and a diary on
-use Rattle.std.specs.Prelude.{ℕ, Bool, true, false, List, [], ◌∷◌, Some, None, Ok, Err, Option, Result}
+use Rattle.std.specs.Prelude.{ℕ, Bool, true, false, List, [], ◌∷◌, Ok, Err, Option, Result}
 use Rattle.tokens.specs.declared.category.Category.{Category}
 use Rattle.tokens.specs.declared.token.Token.{Token}
 use Rattle.matching.specs.Matching.{on}

@@ -1,8 +1,7 @@
 -- The laws of a table of groups, from the invariant.
-use Rattle.std.proofs.Common.{◌≡◌, ℕ, zero, suc, ◌<◌, Bool, true, false, cond, T, List, [], ◌∷◌, ◌++◌, length, sym, refl, ap, ◌∙◌, arith}
-use Rattle.tables.specs.declared.Entry.{Entry}
+use Rattle.std.proofs.Common.{◌≡◌, ℕ, zero, suc, ◌<◌, Bool, true, false, cond, T, List, [], ◌∷◌, ◌++◌, length, refl, ap, ◌∙◌, arith}
 use Rattle.tables.specs.declared.Saved.{Saved}
-use Rattle.tables.specs.Table.{Table, Groups, State, Op, open_group, close_group, assign_locally, assign_globally, none_open, needs_in, recorded, saved_in, opened, closed, closed_in, assigned, refused, step, tried, run, done, new}
+use Rattle.tables.specs.Table.{Table, Groups, State, Op, open_group, close_group, assign_locally, assign_globally, none_open, recorded, opened, closed, closed_in, assigned, refused, tried, run, done, new}
 use Rattle.tables.specs.Diary.{Diary, written, diary_of}
 use Rattle.tables.specs.Laws.{balanced, nothing_global, Survives, LeavesNoTrace}
 use Rattle.tables.proofs.Told.{Tells, StateTells, tells, told_value, assigned_undone, kept_all, tells_done, tells_run, tells_new}

@@ -4,7 +4,7 @@ use mathlib.Core.Path.{fun_ext}
 use Rattle.std.proofs.lemmas.Bool.{eqb-true, cond_both}
 use Rattle.tables.specs.declared.Entry.{Entry}
 use Rattle.tables.specs.declared.Saved.{Saved}
-use Rattle.tables.specs.Table.{Table, Groups, State, Op, open_group, close_group, assign_locally, assign_globally, is_zero, put, undone, needs_in, recorded, refused, step, tried, run, done, new}
+use Rattle.tables.specs.Table.{Table, Groups, State, Op, open_group, close_group, assign_locally, assign_globally, is_zero, put, undone, needs_in, recorded, refused, step, run, done, new}
 use Rattle.tables.specs.Diary.{Diary, opening, local, global, struck, written, diary_from, survivor}
 use Rattle.tables.proofs.OneKey.{restored_at, undone_at, undone_at_lem, global_stays, forgets}
 

@@ -6,7 +6,7 @@
 use Rattle.std.specs.Prelude.{◌≡◌, ℕ, Bool, true, ◌&&◌, List, [], ◌∷◌, map}
 use Rattle.tables.specs.declared.Entry.{Entry}
 use Rattle.tables.specs.declared.Saved.{Saved}
-use Rattle.tables.specs.Table.{Table, Groups, State, Op, open_group, close_group, assign_locally, assign_globally}
+use Rattle.tables.specs.Table.{Groups, State, Op, open_group, close_group, assign_locally, assign_globally}
 
 module _ {V W : Type 0} (f : V → W) where
   abbrev pub entry_by : Entry V → Entry W

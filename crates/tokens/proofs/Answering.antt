@@ -1,11 +1,10 @@
 -- Words and answers give each other back.
-use Rattle.std.proofs.Common.{◌≡◌, ℕ, ◌+◌, ◌*◌, ◌/◌, ◌%◌, ◌^◌, ◌<◌, Bool, true, false, cond, eqb, ltb, IfSome, Some, None, Option, sym, refl, ap, ◌∙◌, arith}
+use Rattle.std.proofs.Common.{◌≡◌, ℕ, ◌+◌, ◌*◌, ◌/◌, ◌%◌, ◌^◌, ◌<◌, eqb, ltb, IfSome, Some, None, Option, sym, refl, ap, ◌∙◌, arith}
 use Rattle.std.specs.Option.{option_map}
-use Rattle.std.proofs.lemmas.Bool.{cond_both, cond-true, cond-false, eqb-true, eqb-false, ne_eqb, eq-eqb, lt-ltb}
+use Rattle.std.proofs.lemmas.Bool.{cond_both, eqb-true, eqb-false, ne_eqb, lt-ltb}
 use Rattle.std.proofs.lemmas.Nat.{shr_high, mod_low, shr_split}
 use Rattle.tokens.specs.declared.category.Category.{Category}
 use Rattle.tokens.specs.declared.token.Token.{Token}
-use Rattle.tokens.specs.declared.token.Token.TheVariants.{Name, Character}
 use Rattle.tokens.specs.declared.answer.GroupKind.{GroupKind}
 use Rattle.tokens.specs.declared.answer.GroupKind.TheVariants.{Brace, BeginGroup, Host}
 use Rattle.tokens.specs.declared.answer.Scope.{Scope}
@@ -15,7 +14,7 @@ use Rattle.tokens.specs.declared.answer.Entry.TheVariants as entry
 use Rattle.tokens.specs.declared.answer.Answer.{Answer}
 use Rattle.tokens.specs.declared.answer.Answer.TheVariants.{Delivered, Opened, Closed, Assigned, End, Working}
 use Rattle.tokens.specs.Categories.{number_of, category_of}
-use Rattle.tokens.specs.Words.{word, word_of, token_by_kind, Held, group_number, group_of, scope_bits, scope_of, entry_bits, entry_by_bit, entry_of, HeldEntry, assigned_of, answer_word, answer_by_kind, answer_of, HeldAnswer}
+use Rattle.tokens.specs.Words.{word, word_of, token_by_kind, group_number, group_of, scope_bits, scope_of, entry_bits, entry_by_bit, entry_of, HeldEntry, assigned_of, answer_word, answer_by_kind, answer_of, HeldAnswer}
 use Rattle.tokens.proofs.Numbers.{Numbered, row, category_number, category_back, category_below}
 use Rattle.tokens.proofs.Tokens.{Worded, worded, fields, token_by_kind_lem, token_kind}
 

@@ -2,7 +2,7 @@
 --   fault_line  a refusal's line: its number and its place
 --   read_line   the line for what a read answered: a token's word, the end, or a refusal
 --   is_end      the line says that nothing is ahead
-use Rattle.std.specs.Prelude.{ℕ, Bool, true, false, Some, None, Ok, Err, Option, Result}
+use Rattle.std.specs.Prelude.{Bool, true, false, Some, None, Ok, Err, Option, Result}
 use Rattle.tokens.specs.declared.token.Token.{Token}
 use Rattle.tokens.specs.Words.{word_of}
 use Rattle.sources.specs.declared.fault.PileFault.{PileFault}

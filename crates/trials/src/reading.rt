@@ -16,11 +16,7 @@ impl From<AllocError> for Trial {
     }
 }
 
-fn write_fault(
-    heap: Global,
-    written: &mut String,
-    fault: PileFault,
-) -> Result<(), AllocError> {
+fn write_fault(heap: Global, written: &mut String, fault: PileFault) -> Result<(), AllocError> {
     let place = fault.place();
     let number = fault.number();
     let line = place.line;

@@ -1,5 +1,4 @@
 use Rattle.std.proofs.Common.{ℕ, vec_items, sym, ◌∙◌, arith}
-use Rattle.book.specs.declared.meaning.Held.{Held}
 use Rattle.book.specs.declared.meaning.Held.TheVariants.{Plain}
 use Rattle.book.specs.Primitives.{primitive_of}
 use Rattle.book.specs.Firsts.{plain_first}

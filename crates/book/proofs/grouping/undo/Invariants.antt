@@ -1,4 +1,4 @@
-use Rattle.std.proofs.Common.{◌≡◌, ℕ, ◌≤◌, reverse, drop, vec_items, vec_len}
+use Rattle.std.proofs.Common.{◌≡◌, ◌≤◌, reverse, drop, vec_items, vec_len}
 use Rattle.tables.specs.declared.Entry.{Entry}
 use Rattle.tables.specs.Table.{undone}
 use Rattle.book.specs.Tabled.{table_of}

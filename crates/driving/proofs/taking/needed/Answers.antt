@@ -1,7 +1,6 @@
-use Rattle.std.proofs.Common.{◌≡◌, Ok, Err, sym, refl, ap, ◌∙◌}
+use Rattle.std.proofs.Common.{Ok, sym, refl, ap, ◌∙◌}
 use Rattle.std.proofs.lemmas.Result.{err_from_is_err_and}
 use Rattle.names.specs.Spelled.{listed}
-use Rattle.driving.specs.Streams.{Takes, stream}
 use Rattle.driving.proofs.Following.{some_taken, none_taken, fault_taken}
 use Rattle.driving.proofs.taking.needed.Goals as goal
 

@@ -1,4 +1,4 @@
-use Rattle.std.proofs.Common.{◌≡◌, length, get_or, drop, sym, refl, ap, ◌∙◌, arith}
+use Rattle.std.proofs.Common.{length, get_or, refl, arith}
 use Rattle.std.proofs.lemmas.List.{at_drop_all}
 use Rattle.tokens.specs.declared.token.Token.TheVariants.{Name}
 use Rattle.tokens.specs.declared.stored.BodyWord.{BodyWord}
@@ -14,12 +14,12 @@ first = word.Token (Name 0)
 pub returns-then-more-count : goal.returns-then-more-count
 returns-then-more-count c =
     let e = long_word (arguments_of c.args.arguments.now) c.args.body.now c.body.word-index first (get_or c.args.body.now c.body.word-index first) c.body-test.true refl in
-    omega (arith, e, c.body.invariant.0, c.body.invariant.1, c.word-length-more.ensures, c.if-more-count.true)
+    omega (arith, e, c.body.invariant.0, c.body.invariant.1, c.word_length-more.ensures, c.if-more-count.true)
 
 pub body-preserved : goal.body-preserved
 body-preserved c =
     let e = long_word (arguments_of c.args.arguments.now) c.args.body.now c.body.word-index first (get_or c.args.body.now c.body.word-index first) c.body-test.true refl in
-    (omega (arith, e, c.body.invariant.0, c.word-length-more.ensures), omega (arith, c.body.invariant.1, c.if-more-count.false))
+    (omega (arith, e, c.body.invariant.0, c.word_length-more.ensures), omega (arith, c.body.invariant.1, c.if-more-count.false))
 
 pub returns : goal.returns
 returns c =

@@ -1,9 +1,8 @@
-use Rattle.std.proofs.Common.{◌≡◌, ◌+◌, List, [], ◌∷◌, ◌++◌, length, drop, vec_items, vec_len, vec_capacity, sym, refl, ap, ◌∙◌, arith}
+use Rattle.std.proofs.Common.{◌+◌, List, ◌++◌, length, drop, vec_items, vec_capacity, sym, refl, ap, ◌∙◌, arith}
 use Rattle.std.proofs.lemmas.List.{append-nil, length-append, drop_all}
 use Rattle.tokens.specs.declared.token.Token.{Token}
-use Rattle.tokens.specs.declared.stored.BodyWord.{BodyWord}
 use Rattle.matcher.specs.Held.{arguments_of}
-use Rattle.expanding.specs.Substituting.{argument_at, substituted}
+use Rattle.expanding.specs.Substituting.{substituted}
 use Rattle.expanding.proofs.Bodies.{long_word, written}
 use Rattle.expanding.proofs.filling.fill.Goals as goal
 use Rattle.expanding.proofs.filling.fill.Goals.{in-Token, in-Reference}
@@ -11,8 +10,8 @@ use Rattle.expanding.proofs.filling.fill.Goals.{in-Token, in-Reference}
 pub body-init : goal.body-init
 body-init c = (ap (λ (z : List Token). z ++ substituted (arguments_of c.args.arguments.now) c.args.body.now) c.requires.empty, refl)
 
-pub push-reserved-requires : goal.push-reserved-requires
-push-reserved-requires c =
+pub push_reserved-requires : goal.push_reserved-requires
+push_reserved-requires c =
     let args = arguments_of c.args.arguments.now in
     let ws = c.args.body.now in
     let v = c.body.tokens in
@@ -35,8 +34,8 @@ body-preserved c =
     elim c.match-word.branch [
       | in-Token w ↦ (
         ap (λ (z : _). vec_items z ++ substituted args (drop (c.body.word-index + 1) ws)) w.tokens-is
-            ∙ written args ws c.body.word-index _ _ c.body-test.true w.in-Token.is (vec_items v) (vec_items w.push-reserved.new.self) w.push-reserved.ensures.items ∙ c.body.invariant.0,
-        ap vec_capacity w.tokens-is ∙ w.push-reserved.ensures.capacity ∙ c.body.invariant.1,
+            ∙ written args ws c.body.word-index _ _ c.body-test.true w.in-Token.is (vec_items v) (vec_items w.push_reserved.new.self) w.push_reserved.ensures.items ∙ c.body.invariant.0,
+        ap vec_capacity w.tokens-is ∙ w.push_reserved.ensures.capacity ∙ c.body.invariant.1,
       )
       | in-Reference w ↦ (
         ap (λ (z : _). vec_items z ++ substituted args (drop (c.body.word-index + 1) ws)) w.tokens-is

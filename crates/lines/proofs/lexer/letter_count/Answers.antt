@@ -1,4 +1,4 @@
-use Rattle.std.proofs.Common.{◌≡◌, sym, ◌∙◌, arith}
+use Rattle.std.proofs.Common.{sym, ◌∙◌, arith}
 use Rattle.lines.proofs.Letters.{letter_more, letter_stop, letters_all}
 use Rattle.lines.proofs.lexer.letter_count.Goals as goal
 

@@ -1,4 +1,4 @@
-use Rattle.std.proofs.Common.{◌≡◌, ◌+◌, Bool, List, [], drop, sym, refl, ap, ◌∙◌, arith}
+use Rattle.std.proofs.Common.{◌≡◌, ◌+◌, List, [], drop, sym, ap, arith}
 use Rattle.std.proofs.lemmas.List.{drop_all}
 use Rattle.std.proofs.lemmas.Bool.{cond-true, cond-false}
 use Rattle.std.proofs.lemmas.Result.{err_from_is_err_and}
@@ -6,9 +6,8 @@ use Rattle.tokens.specs.declared.stored.ParameterWord.{ParameterWord}
 use Rattle.names.specs.Spelled.{listed}
 use Rattle.matching.specs.declared.refusal.MatcherRefusal.TheVariants.{Differs}
 use Rattle.matching.specs.Braces.{same_token}
-use Rattle.matching.specs.Dividing.{Parameters, parameters_of}
+use Rattle.matching.specs.Dividing.{parameters_of}
 use Rattle.matching.specs.Matching.{text_before, begin, following}
-use Rattle.matcher.specs.Going.{Leads, Fails}
 use Rattle.matcher.proofs.Nexts.{next_is}
 use Rattle.matcher.proofs.Going.{stay, onward, turned, fails, refuses, read, unread}
 use Rattle.matcher.proofs.before.text_before.Goals as goal

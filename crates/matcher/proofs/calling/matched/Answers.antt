@@ -1,5 +1,4 @@
-use Rattle.std.proofs.Common.{◌≡◌, Ok, Err, sym, refl, ap, ◌∙◌, rules}
-use Rattle.names.specs.Spelled.{listed}
+use Rattle.std.proofs.Common.{Err, ap, ◌∙◌, rules}
 use Rattle.driving.specs.declared.status.Status.{Status}
 use Rattle.driving.specs.declared.status.Status.TheVariants.{Matching}
 use Rattle.matcher.specs.Held.{arguments_of}

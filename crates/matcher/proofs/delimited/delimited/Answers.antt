@@ -1,14 +1,14 @@
-use Rattle.std.proofs.Common.{◌≡◌, ℕ, ◌+◌, ◌-◌, ◌<◌, ◌≤◌, Bool, true, false, cond, not, ◌&&◌, eqb, List, [], ◌∷◌, ◌++◌, length, take, drop, Some, None, vec_items, vec_len, sym, refl, ap, ◌∙◌, subst, arith}
-use Rattle.std.proofs.lemmas.List.{length_push, drop-take, take-take, take_all}
+use Rattle.std.proofs.Common.{◌≡◌, ℕ, ◌+◌, ◌-◌, ◌≤◌, true, false, eqb, List, [], ◌∷◌, ◌++◌, length, take, drop, Some, None, vec_items, vec_len, sym, refl, ap, ◌∙◌, subst, arith}
+use Rattle.std.proofs.lemmas.List.{length_push, drop-take, take-take}
 use Rattle.std.proofs.lemmas.Result.{err_from_is_err_and}
 use Rattle.std.proofs.lemmas.Bool.{cond-true, cond-false, eq-eqb, ne_eqb}
 use Rattle.tokens.specs.declared.token.Token.{Token}
 use Rattle.matching.specs.Matching.{on}
 use Rattle.names.specs.Spelled.{listed}
 use Rattle.matching.specs.declared.refusal.MatcherRefusal.TheVariants.{Unmatched}
-use Rattle.matching.specs.Braces.{deeper, has_par}
-use Rattle.matching.specs.Dividing.{Permitted, stripped}
-use Rattle.matching.specs.Matching.{Step, Progress, in_run, ended, feed, fewest, settled, settled_from}
+use Rattle.matching.specs.Braces.{deeper}
+use Rattle.matching.specs.Dividing.{stripped}
+use Rattle.matching.specs.Matching.{in_run, ended, settled, settled_from}
 use Rattle.matching.proofs.Valid.{permitted_none}
 use Rattle.matcher.specs.declared.mark.Mark.{Mark}
 use Rattle.matcher.specs.Hindering.{hindrance}

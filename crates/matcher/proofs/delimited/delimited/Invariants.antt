@@ -1,4 +1,4 @@
-use Rattle.std.proofs.Common.{◌≡◌, ◌+◌, ◌-◌, ◌<◌, ◌≤◌, [], take, drop, Some, vec_items, vec_len, vec_capacity}
+use Rattle.std.proofs.Common.{◌≡◌, ◌+◌, ◌<◌, ◌≤◌, [], take, drop, Some, vec_items, vec_len, vec_capacity}
 use Rattle.matching.specs.Matching.{on}
 use Rattle.names.specs.Spelled.{listed}
 use Rattle.matching.specs.Braces.{deeper}

@@ -1,10 +1,8 @@
-use Rattle.std.proofs.Common.{◌≡◌, ℕ, ◌+◌, ◌≤◌, List, [], ◌∷◌, length, drop, vec_items, vec_len, sym, refl, ap, ◌∙◌, arith}
+use Rattle.std.proofs.Common.{◌≡◌, ◌+◌, List, [], length, drop, vec_items, vec_len, sym, ap, ◌∙◌, arith}
 use Rattle.std.proofs.lemmas.List.{drop_all, length-drop, nil_from_length}
 use Rattle.std.proofs.lemmas.Result.{err_from_is_err_and}
 use Rattle.tokens.specs.declared.token.Token.{Token}
-use Rattle.names.specs.Spelled.{listed}
 use Rattle.matching.specs.Dividing.{parameters_of}
-use Rattle.matching.specs.Laws.{parameters_in}
 use Rattle.matching.specs.Matching.{following, fewest}
 use Rattle.matcher.specs.Held.{arguments_of}
 use Rattle.matcher.specs.Marks.{delimiter_in}

@@ -1,8 +1,8 @@
-use Rattle.std.proofs.Common.{◌≡◌, ℕ, ◌+◌, ◌<◌, Bool, true, false, List, ◌∷◌, length, get_or, drop, Some, None, Option, sym, refl, ap, ◌∙◌, arith}
+use Rattle.std.proofs.Common.{◌≡◌, ℕ, ◌+◌, ◌<◌, List, length, get_or, drop, Some, None, Option, sym, ap, ◌∙◌, arith}
 use Rattle.std.proofs.lemmas.List.{drop_more, at_drop_all}
 use Rattle.tokens.specs.declared.token.Token.{Token}
 use Rattle.tokens.specs.declared.token.Token.TheVariants.{Name}
-use Rattle.matching.specs.Braces.{passed, deeper_from, deeper, is_zero, is_balanced}
+use Rattle.matching.specs.Braces.{passed, deeper_from, deeper, is_zero}
 use Rattle.matching.proofs.Depths.{deeper_none}
 use Rattle.matcher.proofs.Settle.{passed_most}
 use Rattle.matcher.proofs.groups.is_balanced.Goals as goal

@@ -1,11 +1,11 @@
-use Rattle.std.proofs.Common.{◌≡◌, ℕ, ◌+◌, ◌-◌, ◌<◌, ◌≤◌, Bool, true, false, ◌&&◌, List, [], ◌∷◌, length, get_or, take, drop, Some, None, sym, refl, ap, ◌∙◌, subst, add_assoc, arith}
+use Rattle.std.proofs.Common.{◌≡◌, ℕ, ◌+◌, ◌<◌, ◌≤◌, true, false, ◌&&◌, List, [], ◌∷◌, length, get_or, take, drop, sym, refl, ap, ◌∙◌, subst, add_assoc, arith}
 use Rattle.std.proofs.lemmas.List.{drop_all, drop_more, drop-drop}
 use Rattle.tokens.specs.declared.stored.ParameterWord.TheVariants as word
 use Rattle.std.proofs.lemmas.Bool.{and_left, and_right, false≢true}
 use Rattle.tokens.specs.declared.token.Token.{Token}
 use Rattle.tokens.specs.declared.token.Token.TheVariants.{Name}
 use Rattle.tokens.specs.declared.stored.ParameterWord.{ParameterWord}
-use Rattle.matching.specs.Braces.{same_token, is_front, is_balanced, deeper}
+use Rattle.matching.specs.Braces.{is_front, is_balanced}
 use Rattle.matching.specs.Matching.{settled_from}
 use Rattle.matcher.specs.declared.mark.Mark.{Mark}
 use Rattle.matcher.specs.Marks.{delimiter_in, begins, Marked}

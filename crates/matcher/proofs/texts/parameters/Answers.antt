@@ -1,4 +1,4 @@
-use Rattle.std.proofs.Common.{◌≡◌, sym, ap, ◌∙◌, arith}
+use Rattle.std.proofs.Common.{ap, arith}
 use Rattle.std.proofs.lemmas.List.{at_drop_all}
 use Rattle.matching.specs.Laws.{parameters_in}
 use Rattle.matcher.proofs.Nexts.{next_is}

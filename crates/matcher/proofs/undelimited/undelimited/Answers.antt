@@ -1,11 +1,9 @@
-use Rattle.std.proofs.Common.{◌≡◌, ℕ, ◌+◌, ◌-◌, ◌≤◌, Bool, true, false, cond, List, [], ◌∷◌, ◌++◌, length, take, drop, Some, None, vec_items, vec_len, sym, refl, ap, ◌∙◌, subst, arith}
+use Rattle.std.proofs.Common.{◌≡◌, ℕ, ◌+◌, ◌-◌, Bool, true, false, cond, List, [], ◌∷◌, ◌++◌, drop, Some, None, vec_items, vec_len, sym, refl, ap, ◌∙◌, arith}
 use Rattle.std.proofs.lemmas.Result.{err_from_is_err_and}
 use Rattle.tokens.specs.declared.token.Token.{Token}
-use Rattle.matching.specs.Matching.{on}
-use Rattle.names.specs.Spelled.{listed}
 use Rattle.matching.specs.declared.refusal.MatcherRefusal.TheVariants.{Unmatched}
 use Rattle.matching.specs.Braces.{is_open, is_par}
-use Rattle.matching.specs.Matching.{Step, Progress, skipping, in_group, ended, feed, fewest}
+use Rattle.matching.specs.Matching.{ended, fewest}
 use Rattle.matcher.specs.Hindering.{hindrance}
 use Rattle.matcher.proofs.Buffers.{none_from, all_before, pushed_from, pushed_before}
 use Rattle.matcher.proofs.Going.{onward, turned, fails, refuses}

@@ -1,6 +1,5 @@
-use Rattle.std.proofs.Common.{◌≡◌, List, length, drop, sym, refl, ap, ◌∙◌, arith}
+use Rattle.std.proofs.Common.{length, sym, ap, ◌∙◌, arith}
 use Rattle.std.proofs.lemmas.List.{drop_all}
-use Rattle.tokens.specs.declared.stored.ParameterWord.{ParameterWord}
 use Rattle.matching.specs.Dividing.{parameters_of}
 use Rattle.matching.specs.Laws.{parameters_in}
 use Rattle.matcher.specs.Marks.{delimiter_in}

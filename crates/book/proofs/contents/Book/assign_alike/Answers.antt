@@ -1,8 +1,8 @@
-use Rattle.std.proofs.Common.{◌≡◌, ℕ, ◌+◌, reverse, vec_items, vec_len, sym, refl, ap, ◌∙◌, subst}
-use Rattle.tables.specs.Table.{State, tried}
+use Rattle.std.proofs.Common.{vec_len, sym, ap, ◌∙◌, subst}
+use Rattle.tables.specs.Table.{tried}
 use Rattle.tables.specs.Reading.{read_by, Holds}
 use Rattle.book.specs.declared.fault.BookFault.TheVariants.{RecordsFull}
-use Rattle.book.specs.Beyond.{no_meaning, no_category}
+use Rattle.book.specs.Beyond.{no_meaning}
 use Rattle.book.specs.Books.{name_answer}
 use Rattle.book.specs.Meanings.{Means, within}
 use Rattle.book.specs.Said.{read, book_of}

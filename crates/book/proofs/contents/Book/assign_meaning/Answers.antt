@@ -1,9 +1,8 @@
-use Rattle.std.proofs.Common.{◌≡◌, ℕ, ◌+◌, reverse, vec_items, vec_len, sym, refl, ap, ◌∙◌, subst}
-use Rattle.tables.specs.Table.{State}
+use Rattle.std.proofs.Common.{vec_len, sym, refl, ap, ◌∙◌, subst}
 use Rattle.tables.specs.Reading.{read_by, Holds}
 use Rattle.book.specs.declared.fault.BookFault.TheVariants.{RecordsFull}
 use Rattle.book.specs.declared.meaning.Held.TheVariants.{Plain}
-use Rattle.book.specs.Beyond.{no_meaning, no_category}
+use Rattle.book.specs.Beyond.{no_meaning}
 use Rattle.book.specs.Meanings.{within, plain}
 use Rattle.book.specs.Said.{read, book_of}
 use Rattle.book.specs.Scopes.{operation}

@@ -1,8 +1,6 @@
 use Rattle.std.proofs.cmp.Tests.{ltb_from_iff}
-use Rattle.std.proofs.Common.{◌≡◌, ℕ, ◌+◌, ◌<◌, ◌≤◌, not, ltb, List, [], ◌∷◌, ◌++◌, reverse, length, is_some, vec_items, vec_len, sym, refl, ap, ◌∙◌, subst, arith}
-use Rattle.std.specs.Option.{option_to_list}
+use Rattle.std.proofs.Common.{◌≡◌, ℕ, ◌+◌, ◌<◌, not, ltb, List, reverse, length, is_some, vec_items, vec_len, sym, refl, ap, ◌∙◌, subst, arith}
 use Rattle.tokens.specs.declared.answer.GroupKind.{GroupKind}
-use Rattle.tables.specs.Table.{State, closed}
 use Rattle.tables.specs.Reading.{read_by, Holds}
 use Rattle.tables.proofs.Reading.{read_closed, holds_closed}
 use Rattle.book.specs.declared.fault.BookFault.TheVariants.{WrongGroup}
@@ -11,7 +9,7 @@ use Rattle.book.specs.Books.{closing, is_innermost, without}
 use Rattle.book.specs.Meanings.{within}
 use Rattle.book.specs.Said.{read, book_of}
 use Rattle.book.specs.Tabled.{state_of}
-use Rattle.book.proofs.Calling.{if_refused, if_done, kinds_popped, one_popped}
+use Rattle.book.proofs.Calling.{if_done, kinds_popped, one_popped}
 use Rattle.book.proofs.contents.Book.close.Goals as goal
 
 pub invariant_of-self : goal.invariant_of-self

@@ -1,22 +1,21 @@
-use Rattle.std.proofs.Common.{◌≡◌, ℕ, ◌+◌, Bool, true, false, cond, ltb, List, ◌++◌, length, Ok, Err, vec_items, vec_len, Result, sym, refl, ap, ◌∙◌, subst, arith}
+use Rattle.std.proofs.Common.{◌≡◌, ℕ, ◌+◌, true, false, ltb, length, Err, vec_items, vec_len, Result, sym, ap, ◌∙◌, subst, arith}
 use Rattle.std.proofs.lemmas.List.{length-append}
 use Rattle.std.proofs.lemmas.Result.{err_from_is_err_and}
 use Rattle.std.proofs.lemmas.Bool.{cond-true, cond-false}
 use Rattle.tables.specs.Table.{State, Op, refused, step, tried}
 use Rattle.tables.specs.Reading.{read_by, Holds}
-use Rattle.book.specs.declared.contents.Book.{Book}
 use Rattle.book.specs.declared.fault.BookFault.{BookFault}
 use Rattle.book.specs.declared.fault.BookFault.TheVariants.{DefinitionTooLong, WordsFull, RecordsFull}
 use Rattle.book.specs.declared.meaning.Held.{Held}
 use Rattle.book.specs.declared.meaning.Held.TheVariants.{Macro}
 use Rattle.book.specs.Beyond.{no_meaning}
-use Rattle.book.specs.Books.{BookState, after, if_room, defining}
+use Rattle.book.specs.Books.{after, if_room, defining}
 use Rattle.book.specs.Meanings.{Means, macro, within}
 use Rattle.book.specs.Said.{read, book_of}
 use Rattle.book.specs.Scopes.{operation, record_answer}
 use Rattle.book.specs.Tabled.{state_of}
 use Rattle.book.proofs.Calling.{if_refused, if_done}
-use Rattle.book.proofs.Defining.{refused_read, past_checks, was_refused, was_done, place, defined, defined_within}
+use Rattle.book.proofs.Defining.{refused_read, past_checks, was_refused, was_done, defined, defined_within}
 use Rattle.book.proofs.contents.Book.define.Goals as goal
 
 -- refused, the table is as before

@@ -1,4 +1,4 @@
-use Rattle.std.proofs.Common.{◌≡◌, ℕ, ◌<◌, eqb, reverse, length, vec_items, sym, ap, ◌∙◌, arith}
+use Rattle.std.proofs.Common.{◌<◌, eqb, reverse, length, vec_items, ◌∙◌, arith}
 use Rattle.std.proofs.lemmas.List.{length-reverse}
 use Rattle.book.proofs.Calling.{is_innermost_lem}
 use Rattle.book.proofs.contents.Book.is_innermost.Goals as goal

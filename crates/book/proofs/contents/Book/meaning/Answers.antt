@@ -1,4 +1,4 @@
-use Rattle.std.proofs.Common.{vec_len, sym, ap, ◌∙◌}
+use Rattle.std.proofs.Common.{vec_len, ap, ◌∙◌}
 use Rattle.book.specs.Beyond.{no_meaning}
 use Rattle.book.specs.Meanings.{within}
 use Rattle.book.specs.Said.{read}

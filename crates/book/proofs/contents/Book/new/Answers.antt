@@ -1,8 +1,8 @@
-use Rattle.std.proofs.Common.{◌≡◌, ℕ, ◌+◌, true, List, [], reverse, length, get_or, vec_items, vec_len, sym, refl, ap, ◌∙◌, subst, arith}
+use Rattle.std.proofs.Common.{◌≡◌, ℕ, ◌+◌, reverse, length, get_or, vec_items, vec_len, sym, refl, ap, ◌∙◌, subst}
 use mathlib.Core.Path.{fun_ext}
 use Rattle.tokens.specs.declared.category.Category.{Category}
 use Rattle.tokens.specs.declared.category.Category.TheVariants.{Other}
-use Rattle.tables.specs.Table.{State, new}
+use Rattle.tables.specs.Table.{new}
 use Rattle.tables.specs.Reading.{Holds, read_by}
 use Rattle.tables.proofs.Reading.{holds_new}
 use Rattle.book.specs.declared.meaning.Held.{Held}
@@ -11,7 +11,7 @@ use Rattle.book.specs.declared.meaning.Plain.TheVariants.{Undefined}
 use Rattle.book.specs.Beyond.{no_meaning, no_category}
 use Rattle.tokens.specs.Firsts.{first_category}
 use Rattle.book.specs.Firsts.{plain_first, first_means}
-use Rattle.book.specs.Meanings.{Means, plain, within}
+use Rattle.book.specs.Meanings.{within}
 use Rattle.book.specs.Primitives.{primitive_of}
 use Rattle.book.specs.Said.{read}
 use Rattle.book.specs.Tabled.{state_of}

@@ -1,14 +1,12 @@
-use Rattle.std.proofs.Common.{◌≡◌, ℕ, ◌<◌, ◌≤◌, leb, List, [], ◌∷◌, reverse, length, vec_items, vec_len, sym, refl, ap, ◌∙◌, subst, arith}
+use Rattle.std.proofs.Common.{◌<◌, ◌≤◌, leb, reverse, length, vec_items, vec_len, sym, ap, ◌∙◌, subst, arith}
 use Rattle.std.proofs.lemmas.List.{length-reverse}
 use Rattle.std.proofs.lemmas.Bool.{le-leb, lt-leb}
-use Rattle.tables.specs.Table.{State, opened}
 use Rattle.tables.specs.Reading.{read_by, Holds}
 use Rattle.book.specs.declared.fault.BookFault.TheVariants.{GroupsFull}
 use Rattle.book.specs.Beyond.{no_meaning, no_category}
 use Rattle.book.specs.Books.{opening}
 use Rattle.book.specs.Meanings.{within}
 use Rattle.book.specs.Said.{read, book_of}
-use Rattle.book.specs.Tabled.{state_of}
 use Rattle.book.proofs.Calling.{if_refused, if_done, kinds_pushed}
 use Rattle.book.proofs.contents.Book.open.Goals as goal
 

@@ -1,4 +1,4 @@
-use Rattle.std.proofs.Common.{◌≡◌, sym, refl, ap, ◌∙◌, subst, rules}
+use Rattle.std.proofs.Common.{sym, ap, ◌∙◌}
 use Rattle.tokens.specs.declared.answer.Scope.{Scope}
 use Rattle.tables.specs.Table.{tried, refused}
 use Rattle.book.specs.declared.fault.BookFault.TheVariants.{RecordsFull}

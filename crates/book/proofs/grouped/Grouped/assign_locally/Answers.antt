@@ -1,11 +1,10 @@
-use Rattle.std.proofs.Common.{◌≡◌, ℕ, ◌<◌, ◌≤◌, reverse, length, vec_items, vec_len, sym, refl, ap, ◌∙◌, subst, arith}
-use Rattle.std.proofs.lemmas.List.{length-reverse}
+use Rattle.std.proofs.Common.{◌<◌, ◌≤◌, vec_len, sym, refl, ap, ◌∙◌, arith}
 use Rattle.tables.specs.declared.Entry.{Entry}
 use Rattle.tables.specs.Table.{State, put, records}
 use Rattle.book.specs.declared.fault.BookFault.TheVariants.{RecordsFull}
 use Rattle.book.specs.declared.grouped.Grouped.{Grouped}
 use Rattle.book.specs.Tabled.{state_of}
-use Rattle.book.proofs.Stacked.{groups_length, records_of, depth_of}
+use Rattle.book.proofs.Stacked.{records_of, depth_of}
 use Rattle.book.proofs.Assigning.{local_full, local_saved, local_plain}
 use Rattle.book.proofs.grouped.Grouped.assign_locally.Goals as goal
 use Rattle.book.proofs.grouped.Grouped.assign_locally.Goals.{then-needs_record+else-len-ge-RECORDS, else-needs_record}

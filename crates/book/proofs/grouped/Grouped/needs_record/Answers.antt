@@ -1,4 +1,4 @@
-use Rattle.std.proofs.Common.{◌≡◌, false, ltb, reverse, length, vec_items, sym, refl, ◌∙◌, arith}
+use Rattle.std.proofs.Common.{◌≡◌, false, ltb, reverse, vec_items, sym, ◌∙◌, arith}
 use Rattle.std.proofs.lemmas.Bool.{le-ltb, both_ways}
 use Rattle.std.proofs.lemmas.List.{length-reverse, get_or_read_under}
 use Rattle.book.specs.Tabled.{table_of}

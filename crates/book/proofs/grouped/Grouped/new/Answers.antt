@@ -1,5 +1,4 @@
-use Rattle.std.proofs.Common.{◌≡◌, ℕ, List, [], reverse, get_or, replicate, vec_items, vec_len, sym, refl, ap, ◌∙◌, rules}
-use mathlib.Core.Path.{fun_ext}
+use Rattle.std.proofs.Common.{◌≡◌, ℕ, List, reverse, get_or, replicate, vec_items, refl, ap, ◌∙◌}
 use Rattle.book.specs.Bases.{groups_of}
 use Rattle.book.proofs.Stacked.{zeros}
 use Rattle.book.proofs.grouped.Grouped.new.Goals as goal

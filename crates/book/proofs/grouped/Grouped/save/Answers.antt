@@ -1,8 +1,7 @@
-use Rattle.std.proofs.Common.{◌≡◌, ℕ, ◌<◌, ◌≤◌, true, List, reverse, length, vec_items, vec_len, vec_capacity, sym, refl, ap, ◌∙◌, subst, arith}
+use Rattle.std.proofs.Common.{◌≡◌, ℕ, ◌<◌, ◌≤◌, true, reverse, length, vec_items, vec_len, sym, refl, ap, ◌∙◌, subst, arith}
 use Rattle.std.proofs.lemmas.List.{length-reverse, get_or_read_under}
-use Rattle.tables.specs.declared.Saved.{Saved}
 use Rattle.tables.specs.Table.{recorded}
-use Rattle.book.specs.Bases.{bounded, keys_below, groups_of}
+use Rattle.book.specs.Bases.{bounded, groups_of}
 use Rattle.book.specs.Tabled.{table_of}
 use Rattle.book.proofs.Stacked.{bounded_more, keys_push, groups_pushed}
 use Rattle.book.proofs.grouped.Grouped.save.Goals as goal

@@ -1,8 +1,8 @@
-use Rattle.std.proofs.Common.{◌≡◌, ℕ, ◌+◌, ◌-◌, ◌≤◌, true, false, List, [], ◌∷◌, ◌++◌, length, take, drop, vec_items, vec_len, sym, refl, ap, ◌∙◌, subst, arith}
+use Rattle.std.proofs.Common.{◌≡◌, ◌+◌, ◌-◌, ◌≤◌, true, false, List, [], ◌∷◌, ◌++◌, length, drop, vec_items, vec_len, sym, refl, ap, ◌∙◌, subst, arith}
 use Rattle.std.proofs.lemmas.Bool.{cond-false}
 use Rattle.tokens.specs.declared.token.Token.{Token}
 use Rattle.tokens.specs.declared.token.Token.TheVariants.{Name}
-use Rattle.matching.specs.Dividing.{is_group, stripped}
+use Rattle.matching.specs.Dividing.{is_group}
 use Rattle.matcher.specs.declared.span.Span.{Span}
 use Rattle.matcher.specs.Spans.{parts_of, all_within}
 use Rattle.matcher.specs.Held.{arguments_of}

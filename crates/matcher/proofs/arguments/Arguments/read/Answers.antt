@@ -1,14 +1,11 @@
-use Rattle.std.proofs.Common.{◌≡◌, ℕ, ◌+◌, ◌<◌, List, [], ◌∷◌, ◌++◌, length, drop, vec_items, vec_len, sym, refl, ap, ◌∙◌, arith}
+use Rattle.std.proofs.Common.{◌≡◌, ℕ, ◌<◌, [], ◌∷◌, ◌++◌, length, drop, vec_items, vec_len, refl, ap, ◌∙◌, arith}
 use Rattle.std.proofs.lemmas.List.{nil_from_length}
-use Rattle.std.proofs.lemmas.Result.{err_from_is_err_and}
-use Rattle.tokens.specs.declared.token.Token.{Token}
 use Rattle.matching.specs.Dividing.{stripped}
-use Rattle.matching.specs.Matching.{Progress}
 use Rattle.matcher.specs.Held.{arguments_of}
 use Rattle.matcher.specs.Marks.{delimiter_in}
 use Rattle.matcher.specs.Spans.{parts_of}
 use Rattle.matcher.proofs.Arguing.{progress, at_skipping, at_run, one_more_lem}
-use Rattle.matcher.proofs.Going.{stay_at, onward, turned, fails}
+use Rattle.matcher.proofs.Going.{stay_at, onward, turned}
 use Rattle.matcher.proofs.Parts.{within_more}
 use Rattle.matcher.proofs.arguments.Arguments.read.Goals as goal
 

@@ -1,6 +1,5 @@
-use Rattle.std.proofs.Common.{◌≡◌, ℕ, ◌+◌, ◌-◌, ◌<◌, ◌≤◌, List, length, take, drop, vec_items, vec_len, vec_capacity, sym, refl, ap, ◌∙◌, subst, arith}
+use Rattle.std.proofs.Common.{◌≡◌, ℕ, ◌+◌, ◌-◌, ◌<◌, ◌≤◌, List, length, take, drop, vec_items, sym, refl, ap, ◌∙◌, subst, arith}
 use Rattle.std.proofs.lemmas.List.{drop_all}
-use Rattle.lines.specs.Line.{left}
 use Rattle.sources.specs.Texts.{made_lines, whole, made, first_line, after_line, Begun}
 use Rattle.sources.proofs.Beginning.{begun_more, ahead_same, left_none, lines_within}
 use Rattle.sources.proofs.text.Text.begin_line.Goals as goal

@@ -1,8 +1,8 @@
-use Rattle.std.proofs.Common.{◌≡◌, ℕ, ◌<◌, ◌⊎◌, List, vec_items, vec_len, sym, ap, ◌∙◌, inl, inr}
+use Rattle.std.proofs.Common.{◌≡◌, ◌<◌, ◌⊎◌, vec_items, vec_len, sym, ap, ◌∙◌, inl, inr}
 use Rattle.std.proofs.lemmas.Result.{err_from_is_err_and}
 use Rattle.names.specs.Spelled.{listed}
 use Rattle.sources.specs.declared.text.Text.{Text}
-use Rattle.sources.specs.Ahead.{Ahead, fault, token, ahead_of}
+use Rattle.sources.specs.Ahead.{fault, ahead_of}
 use Rattle.sources.specs.Texts.{made_lines, place_in}
 use Rattle.sources.specs.Texted.{text_ahead, text_place, text_lines}
 use Rattle.sources.proofs.Heads.{some_answered, fault_answered, none_answered, text_placed, turned_some, turned_none, onward_some}

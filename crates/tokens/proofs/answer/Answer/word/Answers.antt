@@ -1,6 +1,5 @@
-use Rattle.std.proofs.Common.{◌≡◌, Some, sym, ap, ◌∙◌}
+use Rattle.std.proofs.Common.{◌≡◌, Some, sym}
 use Rattle.tokens.specs.Words.{answer_word, HeldAnswer}
-use Rattle.tokens.specs.declared.answer.Answer.TheVariants.{Assigned}
 use Rattle.tokens.proofs.Answering.{answer_back}
 use Rattle.tokens.proofs.answer.Answer.word.Goals as goal
 

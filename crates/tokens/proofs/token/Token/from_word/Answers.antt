@@ -1,5 +1,5 @@
-use Rattle.std.proofs.Common.{◌≡◌, ◌/◌, ◌%◌, ◌^◌, sym, ap, ◌∙◌}
-use Rattle.tokens.specs.Words.{token_of, token_by_kind}
+use Rattle.std.proofs.Common.{◌≡◌, ◌∙◌}
+use Rattle.tokens.specs.Words.{token_of}
 use Rattle.tokens.proofs.Tokens.{token_back, token_worded}
 use Rattle.tokens.proofs.token.Token.from_word.Goals as goal
 
