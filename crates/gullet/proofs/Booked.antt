@@ -1,5 +1,5 @@
 -- A group or an assignment, by what the book answers.
-use Rattle.std.proofs.Common.{◌≡◌, ℕ, List, [], Ok, Err, Result, refl, ap, arith}
+use Rattle.std.proofs.Common.{◌≡◌, ℕ, [], Ok, Err, Result, refl, ap, arith}
 use Rattle.tokens.specs.declared.answer.Answer.{Answer}
 use Rattle.tokens.specs.declared.answer.Answer.TheVariants.{Assigned}
 use Rattle.tokens.specs.declared.answer.Entry.{Entry}

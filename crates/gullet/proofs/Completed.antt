@@ -1,5 +1,5 @@
 -- An expansion completed, by what came of putting back.
-use Rattle.std.proofs.Common.{◌≡◌, ℕ, ◌+◌, ◌≤◌, Bool, true, cond, leb, List, [], ◌++◌, length, Ok, Err, vec_items, Result, sym, refl, ap, ◌∙◌, arith}
+use Rattle.std.proofs.Common.{◌≡◌, ℕ, ◌+◌, ◌≤◌, Bool, true, cond, leb, List, [], ◌++◌, length, Ok, Err, vec_items, refl, ap, ◌∙◌, arith}
 use Rattle.std.proofs.lemmas.Bool.{le-leb}
 use Rattle.tokens.specs.declared.token.Token.{Token}
 use Rattle.tokens.specs.declared.answer.Answer.{Answer}
@@ -9,7 +9,6 @@ use Rattle.sources.specs.declared.fault.PileFault.{PileFault}
 use Rattle.sources.specs.declared.fault.PileFault.TheVariants as piles
 use Rattle.driving.specs.declared.status.Status.TheVariants.{Normal}
 use Rattle.pending.specs.declared.conditional.Part.{Part}
-use Rattle.pending.specs.declared.task.Task.{Task}
 use Rattle.pending.specs.declared.tasks.Tasks.{Tasks}
 use Rattle.pending.specs.Underway.{tasks_of, waiting_of, beyond_waiting}
 use Rattle.pending.proofs.Waiting.{waiting_within}

@@ -1,8 +1,8 @@
 -- How many tokens stay put back when a rule is fed from a put-back, and where reading then stands.
-use Rattle.std.proofs.Common.{◌≡◌, ℕ, List, [], ◌∷◌, ◌++◌, map, sym, refl, ap, ◌∙◌, subst}
+use Rattle.std.proofs.Common.{◌≡◌, List, [], ◌∷◌, ◌++◌, map, sym, refl, ap, ◌∙◌, subst}
 use Rattle.tokens.specs.declared.token.Token.{Token}
-use Rattle.tokens.specs.declared.moves.Move.{Move}
-use Rattle.tokens.specs.declared.moves.Move.TheVariants.{On, Out}
+use Rattle.matching.specs.Matching.{Move}
+use Rattle.matching.specs.Matching.{on, out}
 use Rattle.lines.specs.Line.{Categories, Item, ready}
 use Rattle.names.specs.Naming.{Spellings}
 use Rattle.sources.specs.declared.fault.Place.{Place}
@@ -17,7 +17,7 @@ use Rattle.driving.specs.Streams.{Stream, Standing, standing, stream_of, stream}
 use Rattle.driving.specs.Drives.{Driven, drive, stands_at, answer_of, Reached}
 use Rattle.rules.specs.Readers.{Position, position, Reader, reader, below_stream, held_stream, stream_at}
 use Rattle.gullet.specs.Fed.{Onward, stays, further}
-use Rattle.gullet.proofs.Streaming.{stream_by, driven_by, drive_by, stands_by, answer_by, items_at, forget, stream_forgets}
+use Rattle.gullet.proofs.Streaming.{driven_by, drive_by, stands_by, answer_by, items_at, forget, stream_forgets}
 
 module _ {S P O : Type 0} (reads : Reading S) (cs : Categories) (feed : P → Token → Move P O) where
   abbrev Comes : Move P O → Spellings → Ahead → PutBack S → PutBack S → Type 0
@@ -29,10 +29,10 @@ module _ {S P O : Type 0} (reads : Reading S) (cs : Categories) (feed : P → To
 
   below_held : (m : Move P O) (ns : Spellings) (a : Ahead) (x y : PutBack S) (r : Reader) (read : List Token) → held_tokens x.held ≡ [] → r.stands.held ≡ [] → Comes m ns a x y
       → held_tokens y.held ≡ (stands_at (drive feed m r (below_stream read a))).stands.held
-  below_held (Out o) ns a x y r read e f h = ap (λ (z : PutBack S). held_tokens z.held) h ∙ e ∙ sym f
-  below_held (On p) ns (ahead.none ms) x y r read e f h = empty_read ns x y e h
-  below_held (On p) ns (ahead.fault b ms is) x y r read e f h = empty_read ns x y e h
-  below_held (On p) ns (ahead.token t ms is a) x y r read e f h =
+  below_held (out o) ns a x y r read e f h = ap (λ (z : PutBack S). held_tokens z.held) h ∙ e ∙ sym f
+  below_held (on p) ns (ahead.none ms) x y r read e f h = empty_read ns x y e h
+  below_held (on p) ns (ahead.fault b ms is) x y r read e f h = empty_read ns x y e h
+  below_held (on p) ns (ahead.token t ms is a) x y r read e f h =
       below_held (feed p t) ms a h.0 y (reader (position ms [] is) (read ++ t ∷ [])) (read ++ t ∷ []) (empty_read ns x h.0 e h.1) refl h.2
 
   held_held : (m : Move P O) (ns : Spellings) (ts : List Token) (is : List Item) (x y : PutBack S) (r : Reader) (read : List Token) → held_tokens x.held ≡ ts → r.stands.held ≡ ts
@@ -40,8 +40,8 @@ module _ {S P O : Type 0} (reads : Reading S) (cs : Categories) (feed : P → To
       → held_tokens y.held ≡ (stands_at (drive feed m r (held_stream ns ts is read (λ more. below_stream more (ahead_of cs ns is))))).stands.held
   unfolding ahead_of
   held_held m ns [] is x y r read e f h = below_held m ns (ahead_of cs ns is) x y r read e f h
-  held_held (Out o) ns (t ∷ ts) is x y r read e f h = ap (λ (z : PutBack S). held_tokens z.held) h ∙ e ∙ sym f
-  held_held (On p) ns (t ∷ ts) is x y r read e f h =
+  held_held (out o) ns (t ∷ ts) is x y r read e f h = ap (λ (z : PutBack S). held_tokens z.held) h ∙ e ∙ sym f
+  held_held (on p) ns (t ∷ ts) is x y r read e f h =
       let w = subst (λ (hs : List Token). ReadsBehind reads hs cs ns x h.0) e h.1 in
       held_held (feed p t) ns ts is h.0 y (reader (position ns ts is) (read ++ t ∷ [])) (read ++ t ∷ []) w.0 refl h.2
 
@@ -87,10 +87,10 @@ module _ {S : Type 0} (reads : Reading S) (cs : Categories) where
 
   pub reached_onward : {P O : Type 0} (feed : P → Token → Move P O) (m : Move P O) (ns : Spellings) (s : Stream Standing) (x y : PutBack S)
       → Reached (PutBackReads reads cs) feed m ns s x y → Onward (reads cs) x.below y.below
-  reached_onward feed (Out o) ns s x y h = stays (ap (λ (z : PutBack S). z.below) h)
-  reached_onward feed (On p) ns (streams.nothing b) x y h = behind_onward (held_tokens x.held) ns x y y.below h (stays refl)
-  reached_onward feed (On p) ns (streams.broken e b) x y h = behind_onward (held_tokens x.held) ns x y y.below h (stays refl)
-  reached_onward feed (On p) ns (streams.token t b s) x y h =
+  reached_onward feed (out o) ns s x y h = stays (ap (λ (z : PutBack S). z.below) h)
+  reached_onward feed (on p) ns (streams.nothing b) x y h = behind_onward (held_tokens x.held) ns x y y.below h (stays refl)
+  reached_onward feed (on p) ns (streams.broken e b) x y h = behind_onward (held_tokens x.held) ns x y y.below h (stays refl)
+  reached_onward feed (on p) ns (streams.token t b s) x y h =
       behind_onward (held_tokens x.held) ns x h.0 y.below h.1 (reached_onward feed (feed p t) b.names s h.0 y h.2)
 
   pub onward_both : {x y z : S} → Onward (reads cs) x y → Onward (reads cs) y z → Onward (reads cs) x z

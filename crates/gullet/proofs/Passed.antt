@@ -4,7 +4,7 @@ use Rattle.std.proofs.lemmas.Bool.{lt-ltb}
 use Rattle.tokens.specs.declared.token.Token.{Token}
 use Rattle.tokens.specs.declared.answer.Answer.{Answer}
 use Rattle.tokens.specs.declared.answer.Answer.TheVariants.{Working}
-use Rattle.tokens.specs.declared.moves.Move.TheVariants.{On}
+use Rattle.matching.specs.Matching.{on}
 use Rattle.sources.specs.declared.fault.Place.{Place}
 use Rattle.sources.specs.declared.fault.PileRefusal.TheVariants.{Ended}
 use Rattle.sources.specs.declared.fault.PileFault.{PileFault}
@@ -108,7 +108,7 @@ module _ (s : State) (r : Reader) where
   abbrev pub after_one : Token → Reader → Stepped
   after_one t q = ends q Working (state q.stands s.book s.conditionals (After t ∷ s.tasks))
 
-  pub after_reads : leb 64 (length s.tasks) ≡ false → expand_after s r ≡ finished s Normal (drive one_feed (On tt) r (ahead s r)) after_one
+  pub after_reads : leb 64 (length s.tasks) ≡ false → expand_after s r ≡ finished s Normal (drive one_feed (on tt) r (ahead s r)) after_one
   after_reads e = rw e
 
   pub after_refused : leb 64 (length s.tasks) ≡ true → expand_after s r ≡ refuse s r Normal (gullet TasksFull)

@@ -1,12 +1,12 @@
 -- A result put back, and then the tokens in front of it.
-use Rattle.std.proofs.Common.{◌≡◌, ℕ, ◌+◌, ◌<◌, ◌≤◌, Bool, true, false, cond, leb, List, ◌++◌, length, vec_items, sym, refl, ap, ◌∙◌, append_assoc, arith, length-append}
+use Rattle.std.proofs.Common.{◌≡◌, ◌+◌, ◌<◌, ◌≤◌, leb, List, ◌++◌, length, vec_items, sym, ap, ◌∙◌, append_assoc, arith, length-append}
 use Rattle.std.proofs.lemmas.Bool.{le-leb, lt-leb, cond-true, cond-false}
 use Rattle.tokens.specs.declared.token.Token.{Token}
 use Rattle.sources.specs.declared.fault.PileRefusal.TheVariants.{PutBackFull}
 use Rattle.std.proofs.lemmas.List.{length-reverse}
 use Rattle.piles.specs.declared.held.Held.{Held}
 use Rattle.piles.specs.Helds.{held_tokens}
-use Rattle.piles.specs.Inserting.{Put, put, refused, put_back, held_after}
+use Rattle.piles.specs.Inserting.{put, refused, put_back, held_after}
 
 pub puts : (ts held : List Token) → length ts + length held ≤ 4096 → put_back ts held ≡ put (ts ++ held)
 puts ts held h = cond-true (leb (length ts + length held) 4096) _ _ (le-leb (length ts + length held) 4096 h)

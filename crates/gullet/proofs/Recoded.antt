@@ -14,7 +14,7 @@ use Rattle.book.specs.declared.fault.BookFault.{BookFault}
 use Rattle.book.specs.Books.{BookState, code_answer, after_code}
 use Rattle.driving.specs.declared.status.Status.TheVariants.{Normal}
 use Rattle.driving.specs.Drives.{Driven, came, ended, failed, drive}
-use Rattle.tokens.specs.declared.moves.Move.TheVariants.{On}
+use Rattle.matching.specs.Matching.{on}
 use Rattle.rules.specs.declared.phases.Number.TheVariants.{BeforeNumber}
 use Rattle.rules.specs.Assigning.{recorded_as, recoded_as, recoded_over, recoded_by, recoding_of, number_feed}
 use Rattle.rules.specs.Readers.{Position, Reader, put}
@@ -76,4 +76,4 @@ module _ (s : State) (q r : Reader) (sc : Scope) where
 
   pub recoding_same : (o : Option ℕ) → recoding_of (at s q) sc r o ≡ recoding_of s sc r o
   recoding_same None = refl
-  recoding_same (Some x) = number_same x (drive number_feed (On BeforeNumber) r (ahead s r))
+  recoding_same (Some x) = number_same x (drive number_feed (on BeforeNumber) r (ahead s r))

@@ -1,8 +1,8 @@
 -- What a put-back has ahead is what the rules say, and a rule that is fed it comes to the same.
-use Rattle.std.proofs.Common.{◌≡◌, List, [], ◌∷◌, ◌++◌, map, sym, refl, ap, ◌∙◌}
+use Rattle.std.proofs.Common.{◌≡◌, List, [], ◌∷◌, ◌++◌, map, refl, ap}
 use Rattle.tokens.specs.declared.token.Token.{Token}
-use Rattle.tokens.specs.declared.moves.Move.{Move}
-use Rattle.tokens.specs.declared.moves.Move.TheVariants.{On, Out}
+use Rattle.matching.specs.Matching.{Move}
+use Rattle.matching.specs.Matching.{on, out}
 use Rattle.lines.specs.Line.{Categories, Item, ready}
 use Rattle.names.specs.Naming.{Spellings}
 use Rattle.sources.specs.declared.fault.Place.{Place}
@@ -10,7 +10,7 @@ use Rattle.sources.specs.Ahead as ahead
 use Rattle.sources.specs.Ahead.{Ahead, ahead_of}
 use Rattle.driving.specs.Streams.{Stream, nothing, broken, token, Standing, standing, stream_of, stream}
 use Rattle.driving.specs.Drives.{Driven, came, ended, failed, drive, stands_at, answer_of}
-use Rattle.rules.specs.Readers.{Position, position, Reader, reader, below_stream, held_stream, stream_at}
+use Rattle.rules.specs.Readers.{Position, Reader, below_stream, held_stream, stream_at}
 
 module _ {A B : Type 0} (f : A → B) where
   abbrev pub stream_by : Stream A → Stream B
@@ -24,10 +24,10 @@ module _ {A B : Type 0} (f : A → B) where
   driven_by (failed e a) = failed e (f a)
 
   pub drive_by : {P O : Type 0} (feed : P → Token → Move P O) (m : Move P O) (a : A) (s : Stream A) → drive feed m (f a) (stream_by s) ≡ driven_by (drive feed m a s)
-  drive_by feed (Out o) a s = refl
-  drive_by feed (On p) a (nothing b) = refl
-  drive_by feed (On p) a (broken e b) = refl
-  drive_by feed (On p) a (token t b s) = drive_by feed (feed p t) b s
+  drive_by feed (out o) a s = refl
+  drive_by feed (on p) a (nothing b) = refl
+  drive_by feed (on p) a (broken e b) = refl
+  drive_by feed (on p) a (token t b s) = drive_by feed (feed p t) b s
 
   pub stands_by : {O : Type 0} (d : Driven O A) → stands_at (driven_by d) ≡ f (stands_at d)
   stands_by (came o a) = refl

@@ -4,7 +4,7 @@
 --   turn_at       what becomes of the open conditionals where a skip ends
 --   is_first      whether a conditional is open in its first part
 use Rattle.std.specs.Prelude.{Bool, true, false, Some, None, Ok, Err, Option, Result}
-use Rattle.tokens.specs.declared.moves.Move.TheVariants.{On}
+use Rattle.matching.specs.Matching.{on}
 use Rattle.sources.specs.declared.fault.Place.{Place}
 use Rattle.sources.specs.declared.fault.PileRefusal.TheVariants.{Ended}
 use Rattle.sources.specs.declared.fault.PileFault.TheVariants as piles
@@ -29,7 +29,7 @@ under st p (ended b) = Err (record { cause = Pile (piles.Pile Ended p); status =
 under st p (failed e b) = Err (record { cause = Pile (piles.Line (record { refusal = e; place = p })); status = st })
 
 abbrev pub skipping : State → Reader → Until → Driven Found Reader
-skipping s r u = drive (skip_feed (meanings_of s.book) u) (On 0) r (ahead s r)
+skipping s r u = drive (skip_feed (meanings_of s.book) u) (on 0) r (ahead s r)
 
 abbrev pub turn_at : Found → Turn
 turn_at found.Else = BeginSecond

@@ -6,7 +6,7 @@
 --   let_named     \let behind its name
 use Rattle.std.specs.Prelude.{ℕ, Some, None, Ok, Err, Option, Result}
 use Rattle.tokens.specs.declared.token.Token.{Token}
-use Rattle.tokens.specs.declared.moves.Move.TheVariants.{On}
+use Rattle.matching.specs.Matching.{on}
 use Rattle.sources.specs.declared.fault.PileRefusal.TheVariants.{Ended}
 use Rattle.driving.specs.declared.status.Status.TheVariants.{Normal}
 use Rattle.driving.specs.Drives.{Driven, came, ended, failed, drive}
@@ -19,7 +19,7 @@ use Rattle.rules.specs.Refusals.{Fault, read, pile, gullet}
 use Rattle.rules.specs.States.{State, Stepped, ahead, finished, meanings_of}
 
 abbrev pub named_ahead : State → Reader → Driven (Option ℕ) Reader
-named_ahead s r = drive name_feed (On tt) r (ahead s r)
+named_ahead s r = drive name_feed (on tt) r (ahead s r)
 
 abbrev pub name_from : Option ℕ → Result ℕ Fault
 name_from None = Err (record { cause = gullet BadDefinition; status = Normal })
@@ -31,7 +31,7 @@ target_of (ended r) = Err (record { cause = pile Ended; status = Normal })
 target_of (failed e r) = Err (record { cause = read e; status = Normal })
 
 abbrev pub let_ahead : State → Reader → Driven Token Reader
-let_ahead s r = drive (let_feed (meanings_of s.book)) (On BeforeEquals) r (ahead s r)
+let_ahead s r = drive (let_feed (meanings_of s.book)) (on BeforeEquals) r (ahead s r)
 
 abbrev pub let_named : State → Reader → ℕ → Scope → Stepped
 let_named s r n sc = finished s Normal (let_ahead s r) (let_as s n sc)

@@ -1,7 +1,7 @@
 ghost use Rattle.std.specs.Prelude.{◌≡◌, ℕ, ◌+◌};
 ghost use Rattle.tokens.specs.declared.token.Token.{Token};
-ghost use Rattle.tokens.specs.declared.moves.Move.{Move};
-ghost use Rattle.gullet.specs.Automata.{Within};
+ghost use Rattle.matching.specs.Matching.{Move};
+ghost use Rattle.gullet.specs.Automata.{meant, Within};
 
 use tokens::{Move, Token as Fed};
 
@@ -21,6 +21,6 @@ pub(crate) trait Automaton {
 
     fn feed(&self, phase: Self::Phase, token: Fed) -> Move<Self::Phase, Self::Outcome>
         requires { bears (held self.now phase) }
-        ensures answer { result ≡ feeds self.now phase token }
-        ensures grows { Within (held self.now) (held self.now phase + 1) result };
+        ensures answer { meant result ≡ feeds self.now phase token }
+        ensures grows { Within (held self.now) (held self.now phase + 1) (meant result) };
 }

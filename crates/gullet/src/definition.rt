@@ -1,6 +1,6 @@
 ghost use Rattle.std.specs.Prelude.{◌≡◌, List, []};
 ghost use Rattle.tokens.specs.declared.token.Token.{Token};
-ghost use Rattle.tokens.specs.declared.moves.Move.TheVariants.{On};
+ghost use Rattle.matching.specs.Matching.{on};
 ghost use Rattle.names.specs.Spelled.{listed};
 ghost use Rattle.book.specs.Said.{book_of};
 ghost use Rattle.driving.specs.Streams.{stream, standing};
@@ -28,10 +28,10 @@ fn drafted<S: Source>(
     book: &Book,
     draft: &mut Draft,
 ) -> Result<DefinitionEnd, PileFault>
-    ensures answer { defined_of result draft.new ≡ answer_of (S.Source.place source.new) (drive (definition_feed (meanings_of (book_of book.now))) (On (in_text [] 0)) (standing (listed names.old) (S.Source.ahead source.old)) (stream categories.now (listed names.old) (S.Source.ahead source.old))) }
-    ensures names { listed names.new ≡ (stands_at (drive (definition_feed (meanings_of (book_of book.now))) (On (in_text [] 0)) (standing (listed names.old) (S.Source.ahead source.old)) (stream categories.now (listed names.old) (S.Source.ahead source.old)))).names }
-    ensures items { S.Source.ahead source.new ≡ (stands_at (drive (definition_feed (meanings_of (book_of book.now))) (On (in_text [] 0)) (standing (listed names.old) (S.Source.ahead source.old)) (stream categories.now (listed names.old) (S.Source.ahead source.old)))).items }
-    ensures reached { Reached (S.Source.reads categories.now) (definition_feed (meanings_of (book_of book.now))) (On (in_text [] 0)) (listed names.old) (stream categories.now (listed names.old) (S.Source.ahead source.old)) source.old source.new }
+    ensures answer { defined_of result draft.new ≡ answer_of (S.Source.place source.new) (drive (definition_feed (meanings_of (book_of book.now))) (on (in_text [] 0)) (standing (listed names.old) (S.Source.ahead source.old)) (stream categories.now (listed names.old) (S.Source.ahead source.old))) }
+    ensures names { listed names.new ≡ (stands_at (drive (definition_feed (meanings_of (book_of book.now))) (on (in_text [] 0)) (standing (listed names.old) (S.Source.ahead source.old)) (stream categories.now (listed names.old) (S.Source.ahead source.old)))).names }
+    ensures items { S.Source.ahead source.new ≡ (stands_at (drive (definition_feed (meanings_of (book_of book.now))) (on (in_text [] 0)) (standing (listed names.old) (S.Source.ahead source.old)) (stream categories.now (listed names.old) (S.Source.ahead source.old)))).items }
+    ensures reached { Reached (S.Source.reads categories.now) (definition_feed (meanings_of (book_of book.now))) (on (in_text [] 0)) (listed names.old) (stream categories.now (listed names.old) (S.Source.ahead source.old)) source.old source.new }
 {
     draft.parameters.clear();
     let mut spot = Spot {
@@ -55,8 +55,8 @@ pub(crate) fn read_definition<S: Source>(
     names: &mut Names,
     draft: &mut Draft,
 ) -> Result<DefinitionEnd, PileFault>
-    ensures answer { (read : List Token) → defined_of result draft.new ≡ answer_of (S.Source.place source.new.below) (drive (definition_feed (meanings_of (book_of book.now))) (On (in_text [] 0)) (reader (position_of S.Source.ahead names.old source.old) read) (stream_at (categories_of (book_of book.now)) (position_of S.Source.ahead names.old source.old) read)) }
-    ensures stands { (read : List Token) → position_of S.Source.ahead names.new source.new ≡ (stands_at (drive (definition_feed (meanings_of (book_of book.now))) (On (in_text [] 0)) (reader (position_of S.Source.ahead names.old source.old) read) (stream_at (categories_of (book_of book.now)) (position_of S.Source.ahead names.old source.old) read))).stands }
+    ensures answer { (read : List Token) → defined_of result draft.new ≡ answer_of (S.Source.place source.new.below) (drive (definition_feed (meanings_of (book_of book.now))) (on (in_text [] 0)) (reader (position_of S.Source.ahead names.old source.old) read) (stream_at (categories_of (book_of book.now)) (position_of S.Source.ahead names.old source.old) read)) }
+    ensures stands { (read : List Token) → position_of S.Source.ahead names.new source.new ≡ (stands_at (drive (definition_feed (meanings_of (book_of book.now))) (on (in_text [] 0)) (reader (position_of S.Source.ahead names.old source.old) read) (stream_at (categories_of (book_of book.now)) (position_of S.Source.ahead names.old source.old) read))).stands }
 {
     drafted(source, categories(book), names, book, draft)
 }

@@ -1,6 +1,6 @@
 ghost use Rattle.std.specs.Prelude.{◌≡◌, ◌+◌, ◌≤◌, [], ◌∷◌, ◌++◌, length, vec_len};
 ghost use Rattle.book.specs.Said.{book_of};
-ghost use Rattle.gullet.specs.Automata.{Within};
+ghost use Rattle.gullet.specs.Automata.{meant, Within};
 ghost use Rattle.rules.specs.Defining.{in_text, hash_in_text, in_body, hash_in_body, room, one_more, definition_feed};
 ghost use Rattle.rules.specs.States.{meanings_of};
 ghost use Rattle.rules.specs.Tokens.{Meanings};
@@ -15,7 +15,7 @@ impl Draft {
     // One word more in the parameter text, which then has so many parameters.
     fn more_text(&mut self, word: ParameterWord, count: u8) -> Move<Spot, DefinitionEnd>
         ensures moves { moved result self.new ≡ room (length self.old.parameters.items) (in_text (self.old.parameters.items ++ word ∷ []) count) }
-        ensures within { Within (λ s. s.depth) (vec_len self.new.body) result }
+        ensures within { Within (λ s. s.depth) (vec_len self.new.body) (meant result) }
     {
         if self.parameters.len() >= WORDS_LIMIT {
             return Move::Out(DefinitionEnd::TooLong);
@@ -32,7 +32,7 @@ impl Draft {
     fn more_body(&mut self, word: BodyWord, count: u8, depth: u64) -> Move<Spot, DefinitionEnd>
         requires { depth ≤ vec_len self.old.body + 1 }
         ensures moves { moved result self.new ≡ one_more self.old.parameters.items count self.old.body.items word depth }
-        ensures within { Within (λ s. s.depth) (vec_len self.new.body) result }
+        ensures within { Within (λ s. s.depth) (vec_len self.new.body) (meant result) }
     {
         if self.parameters.len() >= WORDS_LIMIT - self.body.len() {
             return Move::Out(DefinitionEnd::TooLong);
@@ -47,7 +47,7 @@ impl Draft {
 
     fn in_text(&mut self, book: &Book, count: u8, token: Token) -> Move<Spot, DefinitionEnd>
         ensures moves { moved result self.new ≡ definition_feed (meanings_of (book_of book.now)) (in_text self.old.parameters.items count) token }
-        ensures within { Within (λ s. s.depth) (vec_len self.new.body) result }
+        ensures within { Within (λ s. s.depth) (vec_len self.new.body) (meant result) }
     {
         if is_open(token) {
             self.body.clear();
@@ -72,7 +72,7 @@ impl Draft {
 
     fn hash_in_text(&mut self, count: u8, token: Token) -> Move<Spot, DefinitionEnd>
         ensures moves { (f : Meanings) → moved result self.new ≡ definition_feed f (hash_in_text self.old.parameters.items count) token }
-        ensures within { Within (λ s. s.depth) (vec_len self.new.body) result }
+        ensures within { Within (λ s. s.depth) (vec_len self.new.body) (meant result) }
     {
         if count < 9 && is_digit(count + 1, token) {
             self.more_text(ParameterWord::Parameter, count + 1)
@@ -90,7 +90,7 @@ impl Draft {
     ) -> Move<Spot, DefinitionEnd>
         requires { depth ≤ vec_len self.old.body }
         ensures moves { moved result self.new ≡ definition_feed (meanings_of (book_of book.now)) (in_body self.old.parameters.items count self.old.body.items depth) token }
-        ensures within { Within (λ s. s.depth) (vec_len self.new.body) result }
+        ensures within { Within (λ s. s.depth) (vec_len self.new.body) (meant result) }
     {
         let word = BodyWord::Token(token);
         if is_open(token) {
@@ -121,7 +121,7 @@ impl Draft {
     ) -> Move<Spot, DefinitionEnd>
         requires { depth ≤ vec_len self.old.body }
         ensures moves { moved result self.new ≡ definition_feed (meanings_of (book_of book.now)) (hash_in_body self.old.parameters.items count self.old.body.items depth) token }
-        ensures within { Within (λ s. s.depth) (vec_len self.new.body) result }
+        ensures within { Within (λ s. s.depth) (vec_len self.new.body) (meant result) }
     {
         if is_hash(book, token) {
             return self.more_body(BodyWord::Token(token), count, depth);
@@ -147,7 +147,7 @@ impl Draft {
     ) -> Move<Spot, DefinitionEnd>
         requires { spot.depth ≤ vec_len self.old.body }
         ensures moves { moved result self.new ≡ definition_feed (meanings_of (book_of book.now)) (view spot self.old) token }
-        ensures within { Within (λ s. s.depth) (vec_len self.new.body) result }
+        ensures within { Within (λ s. s.depth) (vec_len self.new.body) (meant result) }
     {
         match spot.stage {
             Stage::InText => self.in_text(book, spot.count, token),

@@ -1,5 +1,5 @@
 ghost use Rattle.std.specs.Prelude.{◌≡◌, ℕ, ◌+◌, ◌<◌};
-ghost use Rattle.tokens.specs.declared.moves.Move.TheVariants.{On};
+ghost use Rattle.matching.specs.Matching.{on};
 ghost use Rattle.names.specs.Spelled.{listed};
 ghost use Rattle.driving.specs.Streams.{stream, standing};
 ghost use Rattle.driving.specs.Drives.{drive, stands_at, answer_of, Reached};
@@ -19,10 +19,10 @@ pub(crate) fn driven<S: Source, A: Automaton>(
     start: A::Phase,
 ) -> Result<A::Outcome, PileFault>
     requires { (n : ℕ) → n < A.Automaton.held automaton.now start + S.Source.most → A.Automaton.bears n }
-    ensures answer { result ≡ answer_of (S.Source.place source.new) (drive (A.Automaton.feeds automaton.now) (On start) (standing (listed names.old) (S.Source.ahead source.old)) (stream categories.now (listed names.old) (S.Source.ahead source.old))) }
-    ensures names { listed names.new ≡ (stands_at (drive (A.Automaton.feeds automaton.now) (On start) (standing (listed names.old) (S.Source.ahead source.old)) (stream categories.now (listed names.old) (S.Source.ahead source.old)))).names }
-    ensures items { S.Source.ahead source.new ≡ (stands_at (drive (A.Automaton.feeds automaton.now) (On start) (standing (listed names.old) (S.Source.ahead source.old)) (stream categories.now (listed names.old) (S.Source.ahead source.old)))).items }
-    ensures reached { Reached (S.Source.reads categories.now) (A.Automaton.feeds automaton.now) (On start) (listed names.old) (stream categories.now (listed names.old) (S.Source.ahead source.old)) source.old source.new }
+    ensures answer { result ≡ answer_of (S.Source.place source.new) (drive (A.Automaton.feeds automaton.now) (on start) (standing (listed names.old) (S.Source.ahead source.old)) (stream categories.now (listed names.old) (S.Source.ahead source.old))) }
+    ensures names { listed names.new ≡ (stands_at (drive (A.Automaton.feeds automaton.now) (on start) (standing (listed names.old) (S.Source.ahead source.old)) (stream categories.now (listed names.old) (S.Source.ahead source.old)))).names }
+    ensures items { S.Source.ahead source.new ≡ (stands_at (drive (A.Automaton.feeds automaton.now) (on start) (standing (listed names.old) (S.Source.ahead source.old)) (stream categories.now (listed names.old) (S.Source.ahead source.old)))).items }
+    ensures reached { Reached (S.Source.reads categories.now) (A.Automaton.feeds automaton.now) (on start) (listed names.old) (stream categories.now (listed names.old) (S.Source.ahead source.old)) source.old source.new }
 {
     let mut phase = start;
     'tokens: loop {

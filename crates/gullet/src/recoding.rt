@@ -1,6 +1,7 @@
 ghost use Rattle.std.specs.Prelude.{◌≡◌};
 ghost use Rattle.names.specs.Spelled.{listed};
 ghost use Rattle.rules.specs.Assigning.{subject_feed, number_feed, one_digit, byte_of};
+ghost use Rattle.gullet.specs.Automata.{meant};
 
 use crate::automaton::Automaton;
 use crate::telling::{digit_of, is_equals, is_quote};
@@ -43,7 +44,7 @@ impl Automaton for Subjects {
 
 // One digit more, if the number stays within 15.
 fn one_digit(value: u8, digit: u8) -> Move<Number, Option<(u8, Token)>>
-    ensures { result ≡ one_digit value digit }
+    ensures { meant result ≡ one_digit value digit }
 {
     let number = u16::from(value) * 10 + u16::from(digit);
     if number <= 15 {

@@ -1,6 +1,6 @@
 use Rattle.std.proofs.Common.{◌≡◌, suc, ◌<◌, Err, sym, refl, ap, ◌∙◌, arith}
 use Rattle.std.proofs.lemmas.Result.{err_from_is_err_and}
-use Rattle.tokens.specs.declared.moves.Move.TheVariants.{On, Out}
+use Rattle.matching.specs.Matching.{on, out}
 use Rattle.names.specs.Spelled.{listed}
 use Rattle.book.specs.Said.{book_of}
 use Rattle.driving.specs.Streams.{Standing, stream, standing}
@@ -14,8 +14,8 @@ use Rattle.gullet.proofs.definition.drafted.Goals as goal
 pub tokens-init : goal.tokens-init
 tokens-init g c = rw c.clear.ensures.items (refl, λ y r. r, omega arith)
 
-pub returns-in-err-token : goal.returns-in-err-token
-returns-in-err-token g c =
+pub returns-in_err-token : goal.returns-in_err-token
+returns-in_err-token g c =
     let cs = c.args.categories.now in
     let ns = listed c.tokens.names in
     let ms = listed c.needed.new.names in
@@ -26,9 +26,9 @@ returns-in-err-token g c =
     let reads = g.S.Source.reads cs in
     let feed = definition_feed (meanings_of (book_of c.args.book.now)) in
     let at = view c.tokens.spot c.tokens.draft in
-    let f = c.in-err-token.field-0.0 in
-    let t = c.in-err-token.ensures in
-    let r = err_from_is_err_and c.from-residual.result c.from-residual.ensures.1 in
+    let f = c.in_err-token.field-0.0 in
+    let t = c.in_err-token.ensures in
+    let r = err_from_is_err_and c.from_residual.result c.from_residual.ensures.1 in
     let d = drive_short reads feed at s cs place f ms js here t.takes in
     record {
       answer = ap (λ k. defined_of k c.tokens.draft) (r.1 ∙ ap Err r.2) ∙ d.0 ∙ ap (answer_of place) c.tokens.invariant.0;
@@ -42,7 +42,7 @@ tokens-smaller g c =
     let cs = c.args.categories.now in
     let s = stream cs (listed c.tokens.names) (g.S.Source.ahead c.tokens.source) in
     let more = stream cs (listed c.needed.new.names) (g.S.Source.ahead c.needed.new.source) in
-    let n : size s ≡ suc (size more) = token_size s more c.in-ok-token.token (standing (listed c.needed.new.names) (g.S.Source.ahead c.needed.new.source)) c.in-ok-token.ensures.takes in
+    let n : size s ≡ suc (size more) = token_size s more c.in_ok-token.token (standing (listed c.needed.new.names) (g.S.Source.ahead c.needed.new.source)) c.in_ok-token.ensures.takes in
     let h : size more < size s = omega arith in
     h
 
@@ -59,9 +59,9 @@ tokens-preserved g c =
     let reads = g.S.Source.reads cs in
     let feed = definition_feed (meanings_of (book_of c.args.book.now)) in
     let at = view c.tokens.spot c.tokens.draft in
-    let t = c.in-ok-token.token in
-    let e = c.in-ok-token.ensures in
-    let m = On (view c.in-On.next c.feed.new.self) in
+    let t = c.in_ok-token.token in
+    let e = c.in_ok-token.ensures in
+    let m = on (view c.in-On.next c.feed.new.self) in
     let f = c.in-On.ensures in (
       sym (drive_token reads feed at s more t b m e.takes f.moves here) ∙ c.tokens.invariant.0,
       λ y r. c.tokens.invariant.1 y (reached_token reads feed at s more t b m e.takes f.moves ns c.tokens.source c.needed.new.source y e.reads r),
@@ -82,9 +82,9 @@ returns-in-Out g c =
     let reads = g.S.Source.reads cs in
     let feed = definition_feed (meanings_of (book_of c.args.book.now)) in
     let at = view c.tokens.spot c.tokens.draft in
-    let t = c.in-ok-token.token in
-    let e = c.in-ok-token.ensures in
-    let m = Out (end_of c.in-Out.end c.feed.new.self) in
+    let t = c.in_ok-token.token in
+    let e = c.in_ok-token.ensures in
+    let m = out (end_of c.in-Out.end c.feed.new.self) in
     let f = c.in-Out.ensures.moves in
     let d = sym (drive_token reads feed at s more t b m e.takes f here) ∙ c.tokens.invariant.0 in
     record {

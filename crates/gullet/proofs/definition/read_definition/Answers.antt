@@ -1,5 +1,5 @@
 use Rattle.std.proofs.Common.{[], ◌∙◌}
-use Rattle.tokens.specs.declared.moves.Move.TheVariants.{On}
+use Rattle.matching.specs.Matching.{on}
 use Rattle.names.specs.Spelled.{listed}
 use Rattle.book.specs.Said.{book_of}
 use Rattle.rules.specs.Defining.{in_text, definition_feed}
@@ -15,6 +15,6 @@ returns g c =
     let feed = definition_feed (meanings_of (book_of c.args.book.now)) in
     let p = position_of g.S.Source.ahead c.args.names.now c.args.source.now in
     record {
-      answer = λ read. rw (← c.categories.ensures) (e.answer ∙ answer_then cs feed (On (in_text [] 0)) p read (g.S.Source.place c.drafted.new.source.below));
-      stands = λ read. rw (← c.categories.ensures) (stands_then g.S.Source.ahead g.S.Source.reads cs feed (On (in_text [] 0)) (listed c.args.names.now) (listed c.drafted.new.names) c.args.source.now c.drafted.new.source read e.names e.items e.reached);
+      answer = λ read. rw (← c.categories.ensures) (e.answer ∙ answer_then cs feed (on (in_text [] 0)) p read (g.S.Source.place c.drafted.new.source.below));
+      stands = λ read. rw (← c.categories.ensures) (stands_then g.S.Source.ahead g.S.Source.reads cs feed (on (in_text [] 0)) (listed c.args.names.now) (listed c.drafted.new.names) c.args.source.now c.drafted.new.source read e.names e.items e.reached);
     }

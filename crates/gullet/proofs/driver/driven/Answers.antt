@@ -1,6 +1,6 @@
 use Rattle.std.proofs.Common.{◌≡◌, suc, ◌<◌, Err, sym, refl, ap, ◌∙◌, arith}
 use Rattle.std.proofs.lemmas.Result.{err_from_is_err_and}
-use Rattle.tokens.specs.declared.moves.Move.TheVariants.{On, Out}
+use Rattle.matching.specs.Matching.{on, out}
 use Rattle.names.specs.Spelled.{listed}
 use Rattle.driving.specs.Streams.{Standing, stream, standing}
 use Rattle.driving.specs.Drives.{stands_at, answer_of, size}
@@ -11,8 +11,8 @@ use Rattle.gullet.proofs.driver.driven.Goals as goal
 pub tokens-init : goal.tokens-init
 tokens-init g c = (refl, λ y r. r, omega arith)
 
-pub returns-in-err-token : goal.returns-in-err-token
-returns-in-err-token g c =
+pub returns-in_err-token : goal.returns-in_err-token
+returns-in_err-token g c =
     let cs = c.args.categories.now in
     let ns = listed c.tokens.names in
     let ms = listed c.needed.new.names in
@@ -22,9 +22,9 @@ returns-in-err-token g c =
     let here = standing ns (g.S.Source.ahead c.tokens.source) in
     let reads = g.S.Source.reads cs in
     let feeds = g.A.Automaton.feeds c.args.automaton.now in
-    let f = c.in-err-token.field-0.0 in
-    let t = c.in-err-token.ensures in
-    let r = err_from_is_err_and c.from-residual.result c.from-residual.ensures.1 in
+    let f = c.in_err-token.field-0.0 in
+    let t = c.in_err-token.ensures in
+    let r = err_from_is_err_and c.from_residual.result c.from_residual.ensures.1 in
     let d = drive_short reads feeds c.tokens.phase s cs place f ms js here t.takes in
     record {
       answer = r.1 ∙ ap Err r.2 ∙ d.0 ∙ ap (answer_of place) c.tokens.invariant.0;
@@ -38,7 +38,7 @@ feed-requires g c =
     let cs = c.args.categories.now in
     let s = stream cs (listed c.tokens.names) (g.S.Source.ahead c.tokens.source) in
     let more = stream cs (listed c.needed.new.names) (g.S.Source.ahead c.needed.new.source) in
-    let n : size s ≡ suc (size more) = token_size s more c.in-ok-token.token (standing (listed c.needed.new.names) (g.S.Source.ahead c.needed.new.source)) c.in-ok-token.ensures.takes in
+    let n : size s ≡ suc (size more) = token_size s more c.in_ok-token.token (standing (listed c.needed.new.names) (g.S.Source.ahead c.needed.new.source)) c.in_ok-token.ensures.takes in
     c.requires (g.A.Automaton.held c.args.automaton.now c.tokens.phase) (omega (arith, c.tokens.invariant.2, n, stream_size cs (listed c.args.names.now) (g.S.Source.ahead c.args.source.now), g.met.S.Source.bounded c.args.source.now))
 
 pub tokens-smaller : goal.tokens-smaller
@@ -46,7 +46,7 @@ tokens-smaller g c =
     let cs = c.args.categories.now in
     let s = stream cs (listed c.tokens.names) (g.S.Source.ahead c.tokens.source) in
     let more = stream cs (listed c.needed.new.names) (g.S.Source.ahead c.needed.new.source) in
-    let n : size s ≡ suc (size more) = token_size s more c.in-ok-token.token (standing (listed c.needed.new.names) (g.S.Source.ahead c.needed.new.source)) c.in-ok-token.ensures.takes in
+    let n : size s ≡ suc (size more) = token_size s more c.in_ok-token.token (standing (listed c.needed.new.names) (g.S.Source.ahead c.needed.new.source)) c.in_ok-token.ensures.takes in
     let h : size more < size s = omega arith in
     h
 
@@ -62,9 +62,9 @@ tokens-preserved g c =
     let b = standing ms js in
     let reads = g.S.Source.reads cs in
     let feeds = g.A.Automaton.feeds c.args.automaton.now in
-    let t = c.in-ok-token.token in
-    let e = c.in-ok-token.ensures in
-    let m = On c.in-On.more in
+    let t = c.in_ok-token.token in
+    let e = c.in_ok-token.ensures in
+    let m = on c.in-On.more in
     let f = c.in-On.ensures in
     let n : size s ≡ suc (size more) = token_size s more t b e.takes in (
       sym (drive_token reads feeds c.tokens.phase s more t b m e.takes f.answer here) ∙ c.tokens.invariant.0,
@@ -85,9 +85,9 @@ returns-in-Out g c =
     let b = standing ms js in
     let reads = g.S.Source.reads cs in
     let feeds = g.A.Automaton.feeds c.args.automaton.now in
-    let t = c.in-ok-token.token in
-    let e = c.in-ok-token.ensures in
-    let m = Out c.in-Out.end in
+    let t = c.in_ok-token.token in
+    let e = c.in_ok-token.ensures in
+    let m = out c.in-Out.end in
     let f = c.in-Out.ensures.answer in
     let d = sym (drive_token reads feeds c.tokens.phase s more t b m e.takes f here) ∙ c.tokens.invariant.0 in
     record {

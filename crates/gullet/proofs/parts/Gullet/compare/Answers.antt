@@ -1,7 +1,7 @@
 use Rattle.std.proofs.Common.{◌≡◌, Bool, List, [], None, Err, sym, ap, ◌∙◌}
 use Rattle.std.proofs.lemmas.Result.{err_from_is_err_and}
 use Rattle.tokens.specs.declared.token.Token.{Token}
-use Rattle.tokens.specs.declared.moves.Move.TheVariants.{On}
+use Rattle.matching.specs.Matching.{on}
 use Rattle.book.specs.Meanings.{Means, shown}
 use Rattle.driving.specs.declared.status.Status.TheVariants.{Normal}
 use Rattle.driving.specs.Drives.{Driven, drive, stands_at}
@@ -18,7 +18,7 @@ use Rattle.gullet.proofs.Passed.{went_on, broke_answer, broke_state, ok_under, e
 use Rattle.gullet.proofs.parts.Gullet.compare.Goals as goal
 
 abbrev two_from : State → Reader → Driven (Token × Token) Reader
-two_from s r = drive two_feed (On None) r (ahead s r)
+two_from s r = drive two_feed (on None) r (ahead s r)
 
 abbrev agreeing : State → Token × Token → Bool
 agreeing s two = same_meaning (meaning (meanings_of s.book) two.0) (meaning (meanings_of s.book) two.1)
@@ -26,13 +26,13 @@ agreeing s two = same_meaning (meaning (meanings_of s.book) two.0) (meaning (mea
 abbrev decides : State → Token × Token → Reader → Stepped
 decides s two q = decided s q (agreeing s two)
 
-pub returns-in-err-two : goal.returns-in-err-two
-returns-in-err-two g c =
+pub returns-in_err-two : goal.returns-in_err-two
+returns-in_err-two g c =
     let s = state_of g.S.Source.ahead c.args.self.now in
     let p = g.S.Source.place c.fed.new.source.below in
-    let e = c.in-err-two.ensures in
-    let f = c.in-err-two.field-0.0 in
-    let q = err_from_is_err_and c.from-residual.result c.from-residual.ensures.1 in
+    let e = c.in_err-two.ensures in
+    let f = c.in_err-two.field-0.0 in
+    let q = err_from_is_err_and c.from_residual.result c.from_residual.ensures.1 in
     record {
       answer = λ read.
           let d = two_from s (reader s.stands read) in
@@ -52,14 +52,14 @@ returns g c =
     let end = state_of g.S.Source.ahead c.decide.new.self in
     let l = g.S.Source.place c.fed.new.source.below in
     let p = g.S.Source.place c.decide.new.self.source.below in
-    let e = c.in-ok-two.ensures in
-    let two = c.in-ok-two.two in
+    let e = c.in_ok-two.ensures in
+    let two = c.in_ok-two.two in
     let f = c.decide.ensures in
     let x = c.decide.result in
-    let truth = c.same-meaning-truth.result in
-    let told : truth ≡ agreeing s two = c.same-meaning-truth.ensures
-    ∙ ap (λ (m : Means). same_meaning m (shown c.meaning-of-other.result)) c.meaning-of-one.ensures
-    ∙ ap (λ (m : Means). same_meaning (meaning (meanings_of s.book) two.0) m) c.meaning-of-other.ensures in
+    let truth = c.same_meaning-truth.result in
+    let told : truth ≡ agreeing s two = c.same_meaning-truth.ensures
+    ∙ ap (λ (m : Means). same_meaning m (shown c.meaning_of-other.result)) c.meaning_of-one.ensures
+    ∙ ap (λ (m : Means). same_meaning (meaning (meanings_of s.book) two.0) m) c.meaning_of-other.ensures in
     let rule : State → Reader → Stepped = λ z r. decided z r truth in
     let q : List Token → Reader = λ read. stands_at (two_from s (reader s.stands read)) in
     let k : (read : List Token) → mid ≡ state (q read).stands s.book s.conditionals s.tasks =

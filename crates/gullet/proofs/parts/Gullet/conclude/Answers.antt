@@ -22,7 +22,7 @@ returns-in-Ok g c =
     let e = c.in-Ok.ensures in
     record {
       answer = λ read. e.answer read ∙ ap (placed p) (turned_answer s (reader s.stands read) s.conditionals turn p x);
-      state = λ read. ap (λ (cs : List Part). state after.stands after.book cs after.tasks) c.turn-to.ensures
+      state = λ read. ap (λ (cs : List Part). state after.stands after.book cs after.tasks) c.turn_to.ensures
           ∙ turned_state s (reader s.stands read) s.conditionals turn p x c.in-Ok.answer after (e.answer read) (e.state read);
       below = e.below;
     }

@@ -38,14 +38,14 @@ returns-in-Ok g c =
     let o = c.in-Ok.found in
     let f = c.conclude-in-Ok.ensures in
     let x = c.conclude-in-Ok.result in
-    let turn : Turn = c.turn-at.result in
+    let turn : Turn = c.turn_at.result in
     let rule : State → Reader → Stepped = λ z r. completed z r (turned turn z.conditionals) [] in
     let q : List Token → Reader = λ read. stands_at (skipping s (reader s.stands read) ElseOrFi) in
     let total : (read : List Token) → decided s (reader s.stands read) c.args.truth ≡ rule s (q read) =
     λ read. decided_false s c.args.truth (reader s.stands read) c.if-truth.false
     ∙ went_on s Skipping l (skipped_to s) (skipping s (reader s.stands read) ElseOrFi) o (e.answer read)
     ∙ skipped_to_lem s c.requires.few o (q read)
-    ∙ ap (λ (t : Turn). completed s (q read) (turned t s.conditionals) []) (sym c.turn-at.ensures) in
+    ∙ ap (λ (t : Turn). completed s (q read) (turned t s.conditionals) []) (sym c.turn_at.ensures) in
     record {
       answer = λ read. rests_answer rule s mid (q read) (elsewhere s (q read) (q read) (turned turn s.conditionals) []) (e.state read) p x f.answer
           ∙ ap (λ (y : Stepped). placed p y.answer) (sym (total read));

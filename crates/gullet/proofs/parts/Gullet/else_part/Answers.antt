@@ -16,11 +16,11 @@ use Rattle.gullet.proofs.Holding.{onward_both}
 use Rattle.gullet.proofs.Passed.{else_refused, else_skips, went_on, broke_answer, broke_state, rests_answer, rests_state, elsewhere}
 use Rattle.gullet.proofs.parts.Gullet.else_part.Goals as goal
 
-pub returns-then-not-is-first : goal.returns-then-not-is-first
-returns-then-not-is-first g c =
+pub returns-then-not-is_first : goal.returns-then-not-is_first
+returns-then-not-is_first g c =
     let s = state_of g.S.Source.ahead c.args.self.now in
     let p = g.S.Source.place c.args.self.now.source.below in
-    let n : is_first (front s.conditionals) ≡ false = ap is_first (sym c.innermost-part.ensures) ∙ sym c.is-first.ensures ∙ c.if-not-is-first.true in
+    let n : is_first (front s.conditionals) ≡ false = ap is_first (sym c.innermost_part.ensures) ∙ sym c.is_first.ensures ∙ c.if-not-is_first.true in
     record {
       answer = λ read. ap Err c.refusal.ensures ∙ ap (λ (y : Stepped). placed p y.answer) (sym (else_refused s (reader s.stands read) s.conditionals n));
       state = λ read. ap (λ (y : Stepped). y.state) (sym (else_refused s (reader s.stands read) s.conditionals n));
@@ -34,7 +34,7 @@ returns-in-Ok g c =
     let end = state_of g.S.Source.ahead c.conclude.new.self in
     let l = g.S.Source.place c.skip.new.self.source.below in
     let p = g.S.Source.place c.conclude.new.self.source.below in
-    let n : is_first (front s.conditionals) ≡ true = ap is_first (sym c.innermost-part.ensures) ∙ sym c.is-first.ensures ∙ c.if-not-is-first.false in
+    let n : is_first (front s.conditionals) ≡ true = ap is_first (sym c.innermost_part.ensures) ∙ sym c.is_first.ensures ∙ c.if-not-is_first.false in
     let e = c.in-Ok.ensures in
     let f = c.conclude.ensures in
     let x = c.conclude.result in
@@ -55,7 +55,7 @@ pub returns-in-Err : goal.returns-in-Err
 returns-in-Err g c =
     let s = state_of g.S.Source.ahead c.args.self.now in
     let l = g.S.Source.place c.skip.new.self.source.below in
-    let n : is_first (front s.conditionals) ≡ true = ap is_first (sym c.innermost-part.ensures) ∙ sym c.is-first.ensures ∙ c.if-not-is-first.false in
+    let n : is_first (front s.conditionals) ≡ true = ap is_first (sym c.innermost_part.ensures) ∙ sym c.is_first.ensures ∙ c.if-not-is_first.false in
     let e = c.in-Err.ensures in
     let b = c.in-Err.fault in
     record {

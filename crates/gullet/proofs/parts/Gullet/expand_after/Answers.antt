@@ -2,7 +2,7 @@ use Rattle.std.proofs.Common.{◌≡◌, ◌<◌, true, false, leb, List, [], �
 use Rattle.std.proofs.lemmas.Result.{err_from_is_err_and}
 use Rattle.std.proofs.lemmas.Bool.{leb-false}
 use Rattle.tokens.specs.declared.token.Token.{Token}
-use Rattle.tokens.specs.declared.moves.Move.TheVariants.{On}
+use Rattle.matching.specs.Matching.{on}
 use Rattle.driving.specs.declared.status.Status.TheVariants.{Normal}
 use Rattle.driving.specs.Drives.{Driven, drive, stands_at}
 use Rattle.pending.specs.declared.task.Task.{Task}
@@ -17,34 +17,34 @@ use Rattle.gullet.specs.States.{state_of}
 use Rattle.gullet.proofs.Passed.{after_reads, after_refused, after_one, went_on, broke_answer, broke_state, ok_under, err_under, joins}
 use Rattle.gullet.proofs.parts.Gullet.expand_after.Goals as goal
 
-pub returns-then-is-full : goal.returns-then-is-full
-returns-then-is-full g c =
+pub returns-then-is_full : goal.returns-then-is_full
+returns-then-is_full g c =
     let s = state_of g.S.Source.ahead c.args.self.now in
     let p = g.S.Source.place c.args.self.now.source.below in
-    let full : leb 64 (length s.tasks) ≡ true = sym c.is-full.ensures ∙ c.if-is-full.true in
+    let full : leb 64 (length s.tasks) ≡ true = sym c.is_full.ensures ∙ c.if-is_full.true in
     record {
       answer = λ read. ap Err c.refusal.ensures ∙ ap (λ (y : Stepped). placed p y.answer) (sym (after_refused s (reader s.stands read) full));
       state = λ read. ap (λ (y : Stepped). y.state) (sym (after_refused s (reader s.stands read) full));
       onward = stays refl;
     }
 
-pub returns-in-err-token : goal.returns-in-err-token
-returns-in-err-token g c =
+pub returns-in_err-token : goal.returns-in_err-token
+returns-in_err-token g c =
     let s = state_of g.S.Source.ahead c.args.self.now in
     let p = g.S.Source.place c.fed.new.source.below in
-    let few : leb 64 (length s.tasks) ≡ false = sym c.is-full.ensures ∙ c.if-is-full.false in
-    let e = c.in-err-token.ensures in
-    let f = c.in-err-token.field-0.0 in
-    let q = err_from_is_err_and c.from-residual.result c.from-residual.ensures.1 in
+    let few : leb 64 (length s.tasks) ≡ false = sym c.is_full.ensures ∙ c.if-is_full.false in
+    let e = c.in_err-token.ensures in
+    let f = c.in_err-token.field-0.0 in
+    let q = err_from_is_err_and c.from_residual.result c.from_residual.ensures.1 in
     record {
       answer = λ read.
           let r = reader s.stands read in
-          let d : Driven Token Reader = drive one_feed (On tt) r (ahead s r) in
+          let d : Driven Token Reader = drive one_feed (on tt) r (ahead s r) in
           q.1 ∙ ap Err q.2 ∙ broke_answer s Normal p (after_one s r) d (record { cause = Pile f; status = Normal }) (err_under Normal p d f (e.answer read))
           ∙ ap (λ (y : Stepped). placed p y.answer) (sym (after_reads s r few));
       state = λ read.
           let r = reader s.stands read in
-          let d : Driven Token Reader = drive one_feed (On tt) r (ahead s r) in
+          let d : Driven Token Reader = drive one_feed (on tt) r (ahead s r) in
           rw q.1 (ap (λ (z : Position). state z s.book s.conditionals []) (e.stands read)
           ∙ broke_state s Normal p (after_one s r) d (record { cause = Pile f; status = Normal }) (err_under Normal p d f (e.answer read))
           ∙ ap (λ (y : Stepped). y.state) (sym (after_reads s r few)));
@@ -55,13 +55,13 @@ pub returns : goal.returns
 returns g c =
     let s = state_of g.S.Source.ahead c.args.self.now in
     let p = g.S.Source.place c.fed.new.source.below in
-    let few : leb 64 (length s.tasks) ≡ false = sym c.is-full.ensures ∙ c.if-is-full.false in
+    let few : leb 64 (length s.tasks) ≡ false = sym c.is_full.ensures ∙ c.if-is_full.false in
     let less : length s.tasks < 64 = leb-false 64 (length s.tasks) few in
-    let e = c.in-ok-token.ensures in
-    let t = c.in-ok-token.token in
-    let total : (read : List Token) → expand_after s (reader s.stands read) ≡ after_one s (reader s.stands read) t (stands_at (drive one_feed (On tt) (reader s.stands read) (ahead s (reader s.stands read)))) =
+    let e = c.in_ok-token.ensures in
+    let t = c.in_ok-token.token in
+    let total : (read : List Token) → expand_after s (reader s.stands read) ≡ after_one s (reader s.stands read) t (stands_at (drive one_feed (on tt) (reader s.stands read) (ahead s (reader s.stands read)))) =
     λ read. let r = reader s.stands read in
-    let d : Driven Token Reader = drive one_feed (On tt) r (ahead s r) in
+    let d : Driven Token Reader = drive one_feed (on tt) r (ahead s r) in
     after_reads s r few ∙ went_on s Normal p (after_one s r) d t (ok_under Normal p d t (e.answer read)) in
     record {
       answer = λ read. ap (λ (y : Stepped). placed p y.answer) (sym (total read));

@@ -35,7 +35,7 @@ returns-in-Err g c =
     let e = c.in-Err.ensures in
     let h = λ (read : List Token). recorded_refused s (reader s.stands read) s.stands sc (Name n) (g.S.Source.place me.source.below) (naming (operation sc n m) s.book) (name_answer sc n m s.book) c.in-Err.fault e.answer in
     record {
-      answer = λ read. rw c.refused-by-book.ensures (h read).0;
+      answer = λ read. rw c.refused_by_book.ensures (h read).0;
       state = λ read. rw e.state (h read).1;
       below = refl;
     }

@@ -1,4 +1,4 @@
-use Rattle.std.proofs.Common.{◌≡◌, List, Option, refl, ap, ◌∙◌}
+use Rattle.std.proofs.Common.{List, Option, refl, ap, ◌∙◌}
 use Rattle.tokens.specs.declared.token.Token.{Token}
 use Rattle.tokens.specs.declared.category.Category.{Category}
 use Rattle.tokens.specs.declared.answer.Entry.TheVariants.{Code}
@@ -54,7 +54,7 @@ returns-in-Err g c =
     let e = c.in-Err.ensures in
     let h = λ (read : List Token). recorded_refused s (reader s.stands read) s.stands sc (Code x y) p (coding (operation sc x y) s.book) (code_answer sc x y s.book) c.in-Err.fault e.answer in
     record {
-      answer = λ read. rw c.refused-by-book.ensures ((h read).0 ∙ ap (λ (o : Option Category). placed p (recoded_as s x sc (reader s.stands read) s.stands o).answer) k);
+      answer = λ read. rw c.refused_by_book.ensures ((h read).0 ∙ ap (λ (o : Option Category). placed p (recoded_as s x sc (reader s.stands read) s.stands o).answer) k);
       state = λ read. rw e.state ((h read).1 ∙ ap (λ (o : Option Category). (recoded_as s x sc (reader s.stands read) s.stands o).state) k);
       below = refl;
     }

@@ -22,15 +22,15 @@ returns-then-space g c =
     let v = c.args.number in
     let t = c.args.token in
     let yes : is_space (meanings_of s.book) t ≡ true = cc in
-    let e = c.give-category.ensures in
+    let e = c.give_category.ensures in
     record {
       answer = λ read. rw yes (e.answer read);
       state = λ read. rw yes (e.state read);
       below = e.below;
     }
 
-pub returns-in-err-answer : goal.returns-in-err-answer
-returns-in-err-answer g c =
+pub returns-in_err-answer : goal.returns-in_err-answer
+returns-in_err-answer g c =
     let me = c.args.self.now in
     let s = state_of g.S.Source.ahead me in
     let x = c.args.code in
@@ -43,10 +43,10 @@ returns-in-err-answer g c =
     let after = λ (ts : List Token). held_after ts (put_back (t ∷ []) ts) in
     let k : (read : List Token) → recoded_as s x sc (reader s.stands read) (put s.stands (after hs)) (category_of v) ≡ recoded_by s x sc (Some (v, t)) (reader s.stands read) =
     λ read. rw (no, puts (t ∷ []) hs room) refl in
-    let e = c.in-err-answer.ensures in
-    let f = c.in-err-answer.field-0.0 in
-    let q = err_from_is_err_and c.from-residual.result c.from-residual.ensures.1 in
-    let p = g.S.Source.place c.give-category-2.new.self.source.below in
+    let e = c.in_err-answer.ensures in
+    let f = c.in_err-answer.field-0.0 in
+    let q = err_from_is_err_and c.from_residual.result c.from_residual.ensures.1 in
+    let p = g.S.Source.place c.give_category-2.new.self.source.below in
     let m : (read : List Token) → recoded_as s x sc (reader s.stands read) s.stands (category_of v) ≡ recoded_by s x sc (Some (v, t)) (reader s.stands read) =
     λ read. recoded_not s (reader s.stands read) sc p after x (category_of v) f (e.answer read) ∙ k read in
     record {
@@ -69,11 +69,11 @@ returns g c =
     let after = λ (ts : List Token). held_after ts (put_back (t ∷ []) ts) in
     let k : (read : List Token) → recoded_as s x sc (reader s.stands read) (put s.stands (after hs)) (category_of v) ≡ recoded_by s x sc (Some (v, t)) (reader s.stands read) =
     λ read. rw (no, puts (t ∷ []) hs room) refl in
-    let e = c.in-ok-answer.ensures in
-    let u = c.put-back.ensures in
-    let done = c.give-category-2.new.self in
+    let e = c.in_ok-answer.ensures in
+    let u = c.put_back.ensures in
+    let done = c.give_category-2.new.self in
     let p = g.S.Source.place done.source.below in
-    let h = λ (read : List Token). recoded_over_lem s (reader s.stands read) sc p after x (category_of v) c.in-ok-answer.answer (state_of g.S.Source.ahead done) (e.answer read) (e.state read) in
+    let h = λ (read : List Token). recoded_over_lem s (reader s.stands read) sc p after x (category_of v) c.in_ok-answer.answer (state_of g.S.Source.ahead done) (e.answer read) (e.state read) in
     record {
       answer = λ read. (h read).0 ∙ ap (λ (z : Stepped). placed p z.answer) (k read) ∙ ap (λ b. placed (g.S.Source.place b) (recoded_by s x sc (Some (v, t)) (reader s.stands read)).answer) (sym u.below);
       state = λ read. rw (u.held, u.below) ((h read).1 ∙ ap (λ (z : Stepped). z.state) (k read));

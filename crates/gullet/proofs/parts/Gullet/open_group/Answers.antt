@@ -26,7 +26,7 @@ returns-in-Err g c =
     let e = c.in-Err.ensures in
     let h = λ (read : List Token). grouped_refused s (reader s.stands read) (Opened c.args.kind) (g.S.Source.place me.source.below) (opening c.args.kind s.book) (open_answer s.book) c.in-Err.fault e.answer in
     record {
-      answer = λ read. rw c.refused-by-book.ensures (h read).0;
+      answer = λ read. rw c.refused_by_book.ensures (h read).0;
       state = λ read. rw e.state (h read).1;
       below = refl;
     }

@@ -1,4 +1,4 @@
-use Rattle.std.proofs.Common.{◌≡◌, ℕ, Option, refl, ap, ◌∙◌}
+use Rattle.std.proofs.Common.{ℕ, Option, refl, ap, ◌∙◌}
 use Rattle.rules.specs.Assigning.{recoding_of}
 use Rattle.rules.specs.Readers.{reader}
 use Rattle.gullet.specs.Faults.{placed}
@@ -11,8 +11,8 @@ returns-in-Some g c =
     let s = state_of g.S.Source.ahead c.args.self.now in
     let sc = c.args.scope in
     let k = c.in-Some.ensures in
-    let m = c.recode-byte.ensures in
-    let p = g.S.Source.place c.recode-byte.new.self.source.below in
+    let m = c.recode_byte.ensures in
+    let p = g.S.Source.place c.recode_byte.new.self.source.below in
     record {
       answer = λ read. m.answer read ∙ ap (λ (o : Option ℕ). placed p (recoding_of s sc (reader s.stands read) o).answer) k;
       state = λ read. m.state read ∙ ap (λ (o : Option ℕ). (recoding_of s sc (reader s.stands read) o).state) k;
