@@ -1,6 +1,6 @@
 #!/usr/bin/env bash
 # Counts the instructions of reading 65,536 bytes of text with 700 distinct names, and with one name,
-# by callgrind. Run by hand from the root, after `rt check trace`: the counts are noted in docs/PROOFS.md.
+# by callgrind. Run by hand from the root, after `rt run < stdin` in crates/trace: the counts are noted in docs/PROOFS.md.
 set -eu
 work=$(mktemp -d)
 trap 'rm -r "$work"' EXIT
@@ -20,7 +20,7 @@ text() {
 }
 for names in 1 700; do
     text "$names" > "$work/text"
-    valgrind --tool=callgrind --callgrind-out-file="$work/out" target/bin/trace < "$work/text" > "$work/trace" 2> "$work/log"
+    valgrind --tool=callgrind --callgrind-out-file="$work/out" crates/trace/out/trace < "$work/text" > "$work/trace" 2> "$work/log"
     printf '%s names: %s bytes, %s distinct, %s tokens, ' "$names" "$(wc -c < "$work/text")" "$(grep -o '^0000[0-9a-f]*' "$work/trace" | sort -u | wc -l)" "$(wc -l < "$work/trace")"
     grep -o 'Collected : [0-9]*' "$work/log"
 done

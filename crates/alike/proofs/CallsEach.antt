@@ -1,10 +1,10 @@
 -- Two lists that are related member by member, under any relation; and a test that is the same on both sides.
 --   cond_same, cond_alike   what one test chooses on both sides; what two equal tests choose
---   each_on         a weaker relation relates them too; each_each_on, of lists of lists
---   each_length     they are as long as one another
---   each_++         with more behind them that is related
---   each_end        with one more member behind them
---   each_at         their members at one index, and the same default past the end
+--   each_on                 a weaker relation relates them too; each_each_on, of lists of lists
+--   each_length             they are as long as one another
+--   each_++                 with more behind them that is related
+--   each_end                with one more member behind them
+--   each_at                 their members at one index, and the same default past the end
 use Rattle.std.proofs.Common.{◌≡◌, ℕ, zero, suc, Bool, true, false, cond, List, [], ◌∷◌, ◌++◌, length, get_or, refl, ap, subst}
 use Rattle.alike.specs.Same.{Each, no_more, and}
 

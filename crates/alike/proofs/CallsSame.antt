@@ -1,10 +1,10 @@
 -- A call's reading on two sides, over a relation on tokens.
---   Respectful     a relation that the tests of a call cannot look through: related tokens pass the same tests, and are the same as related ones
---   SameMove       two moves: on in related phases, or out with related outcomes
---   SameProgress, SamePhase, SameOutcome   what is read so far, where a call's reading is, what it comes to
---   SameStep       two steps of a call
+--   Respectful       a relation that the tests of a call cannot look through: related tokens pass the same tests, and are the same as related ones
+--   SameMove         two moves: on in related phases, or out with related outcomes
+--   SameProgress, SamePhase, SameOutcome  what is read so far, where a call's reading is, what it comes to
+--   SameStep         two steps of a call
 --   SameParameters   the parameters of two parameter texts
---   progress_on, phase_on, outcome_on, move_on, step_on_lem, parameters_on   a weaker relation relates them too
+--   progress_on, phase_on, outcome_on, move_on, step_on_lem, parameters_on  a weaker relation relates them too
 use Rattle.std.proofs.Common.{◌≡◌, List}
 use Rattle.tokens.specs.declared.token.Token.{Token}
 use Rattle.matching.specs.Matching.{Move}

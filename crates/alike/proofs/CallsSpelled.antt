@@ -1,9 +1,9 @@
 -- Tokens that are the same as spelled: the tests of a call cannot tell them apart, if no spelling has two numbers and the first names have theirs.
---   eqb_same        the tests of two pairs of numbers, of which each is equal if the other is
---   spelled_past    a number with a spelling is no active character's
---   name_back       the same with the sides exchanged
---   names_equal     the fellows of one number are equal; names_test, two numbers are equal if their fellows are, by the test of it
---   first_name      a first name is its own fellow
+--   eqb_same             the tests of two pairs of numbers, of which each is equal if the other is
+--   spelled_past         a number with a spelling is no active character's
+--   name_back            the same with the sides exchanged
+--   names_equal          the fellows of one number are equal; names_test, two numbers are equal if their fellows are, by the test of it
+--   first_name           a first name is its own fellow
 --   spelled_respectful   the tests of a call respect the same as spelled
 use Rattle.std.proofs.Common.{◌≡◌, ℕ, ◌<◌, Bool, true, false, eqb, List, None, codes, sym, refl, ◌∙◌, arith, eq-eqb, ne_eqb, eqb-true}
 use borrow.Author.Tests.{eqb-false, lt-leb}

@@ -1,8 +1,8 @@
 -- The steps of a call at related tokens are the same.
---   following_same, ended_same, awaiting_same   the next parameter begins; an argument is finished; the text before is awaited
---   begin_same      the start of a call
---   allowed_same    a step, unless it is refused
---   skipped_same, grouped_same, ran_same   before an undelimited argument; in its group; in a delimited argument
+--   following_same, ended_same, awaiting_same  the next parameter begins; an argument is finished; the text before is awaited
+--   begin_same        the start of a call
+--   allowed_same      a step, unless it is refused
+--   skipped_same, grouped_same, ran_same  before an undelimited argument; in its group; in a delimited argument
 --   fed_within, fed   the step at a token, under any limit; under that of a call
 use Rattle.std.proofs.Common.{◌≡◌, ℕ, ◌+◌, Bool, not, ◌&&◌, leb, List, [], ◌∷◌, ◌++◌, length, Some, None, Option, refl, ap}
 use Rattle.tokens.specs.declared.token.Token.{Token}

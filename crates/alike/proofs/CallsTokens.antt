@@ -1,10 +1,10 @@
 -- Lists of related tokens pass the same tests, and have related parts.
---   has_par_same, is_front_same   the name 257 stands in both or in neither; they begin what is related or they do not
---   passed_same, deeper_from_same, deeper_same, is_balanced_same   they are as deep, and balanced or not
---   front_same, within_same, stripped_same   all but the last; without the first and the last; without their braces
---   ends_closed_same, is_group_same   both end in a closing brace, or neither does; both are one group, or neither is
---   settled_same, isComplete-same   what is in a delimited argument for certain; whether its delimiter is complete
---   fewest_same     parameters with related delimiters take as many tokens at least
+--   has_par_same, is_front_same  the name 257 stands in both or in neither; they begin what is related or they do not
+--   passed_same, deeper_from_same, deeper_same, is_balanced_same  they are as deep, and balanced or not
+--   front_same, within_same, stripped_same  all but the last; without the first and the last; without their braces
+--   ends_closed_same, is_group_same  both end in a closing brace, or neither does; both are one group, or neither is
+--   settled_same, is_complete_same  what is in a delimited argument for certain; whether its delimiter is complete
+--   fewest_same   parameters with related delimiters take as many tokens at least
 use Rattle.std.proofs.Common.{◌≡◌, ℕ, ◌+◌, ◌&&◌, List, Some, None, Option, refl, ap}
 use Rattle.tokens.specs.declared.token.Token.{Token}
 use Rattle.matching.specs.Braces.{is_front, has_par, passed, deeper_from, deeper, is_zero, is_balanced}

@@ -1,9 +1,9 @@
 -- A macro's words that are related one by one: its parameters, the start of its call, and its body with arguments.
---   LikeParameterWord, LikeBodyWord   two words, over a relation on tokens
---   spelled_parameters, spelled_body   words that are the same as spelled are so related
+--   LikeParameterWord, LikeBodyWord  two words, over a relation on tokens
+--   spelled_parameters, spelled_body  words that are the same as spelled are so related
 --   parameters_same   the parameters of related parameter texts
 --   begins_same       the start of a call, by its parameter text
---   word_tokens_same, substituted_same   the tokens of a word, and of a body, with related arguments
+--   word_tokens_same, substituted_same  the tokens of a word, and of a body, with related arguments
 use Rattle.std.proofs.Common.{ℕ, zero, suc, List}
 use Rattle.tokens.specs.declared.token.Token.{Token}
 use Rattle.tokens.specs.declared.stored.ParameterWord.{ParameterWord}

@@ -1,8 +1,8 @@
 -- Two runs that are answered alike.
 --   ends_comparison   whether an answer is a refusal 13, 40 or 44, behind which nothing is compared
---   Unless           a fact, unless a test holds
---   Agree            two states answer the same calls alike, until the first such refusal of either; calls are compared under the names of
---                    their own moment, and answers under those behind them
+--   Unless            a fact, unless a test holds
+--   Agree             two states answer the same calls alike, until the first such refusal of either; calls are compared under the names of
+--                     their own moment, and answers under those behind them
 use Rattle.std.specs.Prelude.{ℕ, Bool, true, false, ◌||◌, List, [], ◌∷◌, Ok, Err, Result, ◌==◌}
 use Rattle.tokens.specs.declared.answer.Answer.{Answer}
 use Rattle.rules.specs.Refusals.{Fault, cause_number}

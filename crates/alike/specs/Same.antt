@@ -1,10 +1,10 @@
 -- The same as spelled: two numbers under two lists of spellings, and what is built of them.
---   Spells         a number has a spelling
---   SameName       two numbers of names: the same active character, or names that spell the same
---   SameToken, SameItem   two tokens, two items
---   Each           two lists as long as one another, related member by member
---   SameWord       two words that are inserted: tokens that are the same, the same word that is no token, or the same number without a spelling
---   SameCall       two calls
+--   Spells                   a number has a spelling
+--   SameName                 two numbers of names: the same active character, or names that spell the same
+--   SameToken, SameItem      two tokens, two items
+--   Each                     two lists as long as one another, related member by member
+--   SameWord                 two words that are inserted: tokens that are the same, the same word that is no token, or the same number without a spelling
+--   SameCall                 two calls
 --   SameAnswer, SameResult   two answers; two answers or faults
 use Rattle.std.specs.Prelude.{◌≡◌, ℕ, ◌<◌, ◌≤◌, List, [], ◌∷◌, Some, None, Ok, Err, Result}
 use Rattle.tokens.specs.declared.category.Category.{Category}

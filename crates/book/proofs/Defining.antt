@@ -11,7 +11,7 @@ use Rattle.book.specs.declared.fault.BookFault.{BookFault}
 use Rattle.tokens.specs.declared.stored.ParameterWord.{ParameterWord}
 use Rattle.tokens.specs.declared.stored.BodyWord.{BodyWord}
 use Rattle.book.specs.declared.meaning.Span.{Span}
-use Rattle.book.specs.declared.meaning.Macro as of-macro
+use Rattle.book.specs.declared.meaning.Macro as of_macro
 use Rattle.book.specs.declared.meaning.Held.{Held}
 use Rattle.book.specs.declared.meaning.Held.TheVariants.{Plain, Macro}
 use Rattle.book.specs.Faults.{answered}
@@ -51,7 +51,7 @@ part_new : {X : Type 0} (n : ℕ) (xs ys : List X) → n ≡ length xs → part 
 part_new n xs ys e = ap (take (length ys)) (drop_at xs ys n (sym e)) ∙ take_all (length ys) ys (omega arith)
 
 module _ (ps ps' : List ParameterWord) (bs bs' : List BodyWord) (n m : ℕ) (ns : n ≡ length ps) (ms : m ≡ length bs) where
-  abbrev pub place : Bool → of-macro.Macro
+  abbrev pub place : Bool → of_macro.Macro
   place long = record { long = long; parameters = record { start = n; count = length ps' }; body = record { start = m; count = length bs' } }
 
   pub place_means : (long : Bool) → means_of (ps ++ ps') (bs ++ bs') (Macro (place long)) ≡ macro long ps' bs'

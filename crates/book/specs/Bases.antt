@@ -1,5 +1,5 @@
 -- How the save records of all open groups lie in one list, oldest first. Bases are told innermost group first.
---   bounded     no base passes the next one inside, the innermost not the count of records; with no group there are no records
+--   bounded      no base passes the next one inside, the innermost not the count of records; with no group there are no records
 --   groups_of    the records of each group, the innermost group first, in each the newest first
 --   keys_below   every record's key is below a limit
 use Rattle.std.specs.Prelude.{ℕ, Bool, true, ◌&&◌, List, [], ◌∷◌, reverse, take, drop, ◌==◌, nat_le, nat_lt}

@@ -1,20 +1,20 @@
 -- The state of a book, and for each call the answer to it and the state after it. A refused call changes nothing.
---   BookState       what names mean, the categories of codes, the kinds of the open groups (innermost first), the words used
+--   BookState        what names mean, the categories of codes, the kinds of the open groups (innermost first), the words used
 --   new_book         the state of a new book
---   after           what a call leaves: what was, if its answer is a fault, else what the call does
---   innermost       the kind of the innermost group
+--   after            what a call leaves: what was, if its answer is a fault, else what the call does
+--   innermost        the kind of the innermost group
 --   is_innermost     whether the innermost group is of a kind
---   without         the groups but the innermost
+--   without          the groups but the innermost
 --   open_answer      46 with 250 groups open
---   opening         a group of a kind opened, in both tables
+--   opening          a group of a kind opened, in both tables
 --   close_answer     36 unless the innermost group is of the kind
---   closing         the innermost group closed, in both tables
---   naming, coding  an operation on what names mean, or on categories
---   name_answer, code_answer   the answer to an assignment: 45 if it needs a record and 2,048 are taken
+--   closing          the innermost group closed, in both tables
+--   naming, coding   an operation on what names mean, or on categories
+--   name_answer, code_answer  the answer to an assignment: 45 if it needs a record and 2,048 are taken
 --   if_room          43 over 2,048 words, 44 if the used and the new words pass 16,384, else an answer
 --   define_answer    the answer to the definition of a macro
---   defining        a macro assigned, its words used from then on
---   after_open, after_close, after_name, after_code, after_define   the state after each call
+--   defining         a macro assigned, its words used from then on
+--   after_open, after_close, after_name, after_code, after_define  the state after each call
 use Rattle.std.specs.Prelude.{ℕ, ◌+◌, Bool, false, cond, not, List, [], ◌∷◌, length, Some, None, Ok, Err, Option, Result, ◌==◌, nat_le, nat_lt}
 use Rattle.tokens.specs.declared.answer.GroupKind.{GroupKind}
 use Rattle.tokens.specs.declared.answer.Scope.{Scope}

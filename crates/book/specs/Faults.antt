@@ -1,7 +1,7 @@
 -- The numbers and the layer of the book's refusals.
 --   number_of   the number of a fault
 --   layer_of    the layer of a fault: the book
---   answered   the answer of a call that gives nothing back: the fault if it is refused
+--   answered    the answer of a call that gives nothing back: the fault if it is refused
 use Rattle.std.specs.Prelude.{ℕ, Bool, cond, Ok, Err, Result}
 use Rattle.tokens.specs.declared.layer.Layer.{Layer}
 use Rattle.tokens.specs.declared.layer.Layer.TheVariants.{Book}

@@ -1,6 +1,6 @@
 -- What a book says.
 --   read      what its held meanings say, by its words
---   book_of    its state
+--   book_of   its state
 use Rattle.std.specs.Prelude.{◌+◌, reverse, vec_items, vec_len}
 use Rattle.tables.specs.Reading.{read_by}
 use Rattle.book.specs.declared.contents.Book.{Book}

@@ -1,5 +1,5 @@
 -- Assignments to a grouped table of 2,048 save records.
---   operation      the operation of an assignment, by its scope
+--   operation       the operation of an assignment, by its scope
 --   record_answer   the answer to an operation: 45 if it needs a record and 2,048 are taken
 use Rattle.std.specs.Prelude.{ℕ, Result}
 use Rattle.tokens.specs.declared.answer.Scope.{Scope}

@@ -1,8 +1,8 @@
 -- What a grouped table in memory says.
---   table_of     the entries of values and levels; beyond their end an entry d
---   state_of     the state of a grouped table
---   size        how many keys it has
---   depth       how many groups are open
+--   table_of   the entries of values and levels; beyond their end an entry d
+--   state_of   the state of a grouped table
+--   size       how many keys it has
+--   depth      how many groups are open
 use Rattle.std.specs.Prelude.{ℕ, List, reverse, vec_items, vec_len, slice_index_or}
 use Rattle.tables.specs.declared.Entry.{Entry}
 use Rattle.tables.specs.Table.{Table, State}

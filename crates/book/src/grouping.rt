@@ -1,5 +1,5 @@
 ghost use Rattle.std.specs.Prelude.{◌≡◌, ℕ, ◌+◌, ◌-◌, ◌<◌, ◌≤◌, true, List, [], ◌∷◌, reverse, length, take, drop, IfOk, vec_len, vec_capacity, slice_index_or};
-ghost use Rattle.tables.specs.Table.{State, put, restored, undone, opened, closed, tried, records, needs_record, recorded, assign_locally, new as newTable};
+ghost use Rattle.tables.specs.Table.{State, put, restored, undone, opened, closed, tried, records, needs_record, recorded, assign_locally, new as new_table};
 ghost use Rattle.book.specs.Bases.{keys_below};
 ghost use Rattle.book.specs.Scopes.{operation, record_answer};
 ghost use Rattle.book.specs.Tabled.{table_of, state_of, size, depth};
@@ -48,7 +48,7 @@ fn undo<V: Copy>(values: &mut Vec<V>, levels: &mut Vec<u8>, saved: &mut Vec<Save
 impl<V: Copy> Grouped<V> {
     // A table with its first values, one for each key from 0 on. All its memory is taken here.
     pub(crate) fn new(heap: Global, values: Vec<V>) -> Result<Grouped<V>, AllocError>
-        ensures { IfOk result (λ t. ((d : Entry V) → d.level ≡ 0 → state_of d t ≡ newTable (λ k. slice_index_or values.items k d.value)) × (size t ≡ vec_len values) × (depth t ≡ 0)) }
+        ensures { IfOk result (λ t. ((d : Entry V) → d.level ≡ 0 → state_of d t ≡ new_table (λ k. slice_index_or values.items k d.value)) × (size t ≡ vec_len values) × (depth t ≡ 0)) }
     {
         let levels = vec![in heap; 0u8; values.len()]?;
         let saved = Vec::with_capacity(heap, RECORDS)?;

@@ -1,10 +1,10 @@
 -- Rules that are fed the tokens ahead one by one.
---   Driven     what comes of it: an outcome, nothing ahead while more is needed, or a refused read; and where the reader then stands
---   drive      a rule fed from a move on, until it is out
+--   Driven      what comes of it: an outcome, nothing ahead while more is needed, or a refused read; and where the reader then stands
+--   drive       a rule fed from a move on, until it is out
 --   stands_at   where the reader then stands
 --   answer_of   what is answered of it, where the source's place is then p
---   Reached    what the reads that a rule makes, in their order, make of a source, by the relation of one read
---   size       how many tokens are ahead
+--   Reached     what the reads that a rule makes, in their order, make of a source, by the relation of one read
+--   size        how many tokens are ahead
 use Rattle.std.specs.Prelude.{◌≡◌, ℕ, suc, Ok, Err, Result}
 use Rattle.tokens.specs.declared.token.Token.{Token}
 use Rattle.matching.specs.Matching.{Move}

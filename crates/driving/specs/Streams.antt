@@ -1,8 +1,8 @@
 -- Tokens ahead of a reader, and where it stands behind each.
---   Stream     the tokens in order, each with where the reader stands once it is read; ended by nothing or a refused read
---   Standing   where a reader of a source stands: the names then, and the items ahead
+--   Stream      the tokens in order, each with where the reader stands once it is read; ended by nothing or a refused read
+--   Standing    where a reader of a source stands: the names then, and the items ahead
 --   stream_of   the tokens ahead of a source as a stream
---   Takes      one token is needed and read: what was ahead began with it; where none was, the fault is 25, at the source's place
+--   Takes       one token is needed and read: what was ahead began with it; where none was, the fault is 25, at the source's place
 use Rattle.std.specs.Prelude.{◌≡◌, List, [], Ok, Err, Result}
 use Rattle.tokens.specs.declared.token.Token.{Token}
 use Rattle.lines.specs.Line.{Categories, Item}

@@ -2,7 +2,7 @@
 --   or_none        the tokens that there are, or none
 --   argument_at    the argument of a reference, from 1; none beyond
 --   word_tokens    the tokens that a word of a body gives
---   substituted   the tokens that a body gives
+--   substituted    the tokens that a body gives
 --   expansion_of   the tokens that an expansion holds
 use Rattle.std.specs.Prelude.{ℕ, zero, suc, List, [], ◌∷◌, ◌++◌, Some, None, vec_items, Option}
 use Rattle.std.specs.List.{slice_get}

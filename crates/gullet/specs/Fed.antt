@@ -1,6 +1,6 @@
 -- Tokens ahead of a put-back over any source, as the rules see them.
 --   position_of   where reading stands, by what is ahead of the source below
---   Onward       what some reads, one after another, make of a source, by the relation of one read
+--   Onward        what some reads, one after another, make of a source, by the relation of one read
 use Rattle.std.specs.Prelude.{◌≡◌, List}
 use Rattle.lines.specs.Line.{Item}
 use Rattle.names.specs.declared.names.Names.{Names}

@@ -1,8 +1,8 @@
 -- Rules fed by a gullet under a scanning status.
---   under        what is answered of a rule fed under a status, where the place is then p
---   skipping     a skip
---   turn_at       what becomes of the open conditionals where a skip ends
---   is_first      whether a conditional is open in its first part
+--   under      what is answered of a rule fed under a status, where the place is then p
+--   skipping   a skip
+--   turn_at    what becomes of the open conditionals where a skip ends
+--   is_first   whether a conditional is open in its first part
 use Rattle.std.specs.Prelude.{Bool, true, false, Some, None, Ok, Err, Option, Result}
 use Rattle.matching.specs.Matching.{on}
 use Rattle.sources.specs.declared.fault.Place.{Place}

@@ -1,7 +1,7 @@
 -- The state of a gullet, and how a call under way is told.
---   state_of      the state, by what is ahead of the source below
---   place_of      the place, which is that of the source below
---   cleared      the state once a refused step's tasks are gone
+--   state_of   the state, by what is ahead of the source below
+--   place_of   the place, which is that of the source below
+--   cleared    the state once a refused step's tasks are gone
 use Rattle.std.specs.Prelude.{List, [], Ok, Err, Result}
 use Rattle.lines.specs.Line.{Item}
 use Rattle.sources.specs.declared.fault.Place.{Place}

@@ -1,15 +1,15 @@
 -- How a line is read, piece by piece.
---   category    the category of a byte
---   letters     the longest run of letters at the front
---   escaped     the bytes behind an escape that spell its name
---   piece_of     the next piece of a line in a state
---   taken_of     how many bytes it takes
---   state_after  the state behind a piece
---   Item        a ready token, or the rest of a line with its state
---   left        the rest of a line over the items below, no item where no byte is left
---   Pieces      what items give: tokens and names, each with the items behind it, ended by nothing or a refused byte
---   pieces      the pieces of a list of items, under fixed categories
---   First       what a line gives, told by its first piece
+--   category      the category of a byte
+--   letters       the longest run of letters at the front
+--   escaped       the bytes behind an escape that spell its name
+--   piece_of      the next piece of a line in a state
+--   taken_of      how many bytes it takes
+--   state_after   the state behind a piece
+--   Item          a ready token, or the rest of a line with its state
+--   left          the rest of a line over the items below, no item where no byte is left
+--   Pieces        what items give: tokens and names, each with the items behind it, ended by nothing or a refused byte
+--   pieces        the pieces of a list of items, under fixed categories
+--   First         what a line gives, told by its first piece
 use Rattle.std.specs.Prelude.{ℕ, zero, suc, ◌+◌, Bool, true, false, cond, List, [], ◌∷◌, length, drop, codes, slice_index_or}
 use Rattle.tokens.specs.declared.category.Category.{Category}
 use Rattle.tokens.specs.declared.category.Category.TheVariants.{Escape, Open, Close, Math, Align, EndLine, Parameter, Superscript, Subscript, Ignored, Space, Letter, Other, Active, Comment, Invalid}
@@ -196,5 +196,5 @@ pieces cs (rest s bs ∷ is) = line cs bs 0 s is (pieces cs is)
 abbrev pub First : Categories → LineState → List ℕ → List Item → Pieces
 First cs s bs is =
     let p : Shown = piece_of cs s bs in
-    let rest-behind : List Item = left (state_after cs s p) (drop (taken_of cs s bs) bs) is in
-    onward p rest-behind (pieces cs rest-behind)
+    let rest_behind : List Item = left (state_after cs s p) (drop (taken_of cs s bs) bs) is in
+    onward p rest_behind (pieces cs rest_behind)

@@ -1,7 +1,7 @@
 -- A macro's call.
---   called       what comes of the tokens ahead, for a macro that is long or not, with a parameter text
+--   called        what comes of the tokens ahead, for a macro that is long or not, with a parameter text
 --   call_answer   what is answered of it, where the source's place is then p and the scanning status was st
---   Called       what the reads of a call make of a source, by the relation of one read
+--   Called        what the reads of a call make of a source, by the relation of one read
 use Rattle.std.specs.Prelude.{Bool, List, Ok, Err, Result}
 use Rattle.tokens.specs.declared.stored.ParameterWord.{ParameterWord}
 use Rattle.lines.specs.Line.{Categories, Item}

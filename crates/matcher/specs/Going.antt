@@ -1,10 +1,10 @@
 -- A call's arguments while they are read from a source.
---   driven     what comes of a step of the call, with some names, over some items ahead
---   answered   what is answered of it, where the source's place is then p: the arguments, or why there are none
---   given      the arguments that came, none where none did
+--   driven        what comes of a step of the call, with some names, over some items ahead
+--   answered      what is answered of it, where the source's place is then p: the arguments, or why there are none
+--   given         the arguments that came, none where none did
 --   ReachedFrom   what the reads from a step on make of a source
---   Leads      reading on from one step with these names and this source is reading on from another with those
---   Fails      reading on from a step comes to a fault, with these names and this source then
+--   Leads         reading on from one step with these names and this source is reading on from another with those
+--   Fails         reading on from a step comes to a fault, with these names and this source then
 use Rattle.std.specs.Prelude.{◌≡◌, Bool, List, [], Ok, Err, Result}
 use Rattle.tokens.specs.declared.token.Token.{Token}
 use Rattle.lines.specs.Line.{Categories, Item}

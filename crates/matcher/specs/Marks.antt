@@ -1,8 +1,8 @@
 -- Places in the tokens of a delimited argument.
 --   delimiter_in   the delimiter at the front of some words: the tokens up to the next parameter
---   begins        whether a token is the first of some tokens
---   Marked        a mark is in some tokens, with its depth, and tells of the name 257 what stands behind another place
---   moved         a mark behind the next token; none where that closes a brace that was not opened
+--   begins         whether a token is the first of some tokens
+--   Marked         a mark is in some tokens, with its depth, and tells of the name 257 what stands behind another place
+--   moved          a mark behind the next token; none where that closes a brace that was not opened
 use Rattle.std.specs.Prelude.{◌≡◌, ℕ, ◌+◌, ◌≤◌, Bool, false, ◌||◌, List, [], ◌∷◌, length, take, Some, Option}
 use Rattle.std.specs.Option.{option_map}
 use Rattle.tokens.specs.declared.token.Token.{Token}

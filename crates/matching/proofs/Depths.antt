@@ -2,7 +2,7 @@
 use Rattle.std.proofs.Common.{◌≡◌, ℕ, zero, suc, ◌+◌, ◌≤◌, Bool, true, false, not, ◌&&◌, ◌||◌, eqb, List, [], ◌∷◌, ◌++◌, length, Some, None, Option, sym, refl, ap, ◌∙◌, arith}
 use Rattle.std.proofs.lemmas.Bool.{both_ways, eqb-true, eq-eqb, and_parts, and_from, or_parts, or_from, cond_both, false≢true}
 use Rattle.tokens.specs.declared.token_category.TokenCategory.{TokenCategory}
-use Rattle.tokens.specs.declared.token_category.TokenCategory.TheVariants as of-token
+use Rattle.tokens.specs.declared.token_category.TokenCategory.TheVariants as of_token
 use Rattle.tokens.specs.declared.token.Token.{Token}
 use Rattle.tokens.specs.declared.token.Token.TheVariants.{Name, Character}
 use Rattle.tokens.specs.Categories.{token_number_of, token_category_of}
@@ -10,16 +10,16 @@ use Rattle.matching.specs.Braces.{is_open, is_close, is_blank, is_par, same_toke
 use Rattle.matching.specs.Dividing.{front, ends_closed, is_group, within, stripped, Permitted}
 
 category_back : (c : TokenCategory) → token_category_of (token_number_of c) ≡ Some c
-category_back of-token.Open = refl
-category_back of-token.Close = refl
-category_back of-token.Math = refl
-category_back of-token.Align = refl
-category_back of-token.Parameter = refl
-category_back of-token.Superscript = refl
-category_back of-token.Subscript = refl
-category_back of-token.Space = refl
-category_back of-token.Letter = refl
-category_back of-token.Other = refl
+category_back of_token.Open = refl
+category_back of_token.Close = refl
+category_back of_token.Math = refl
+category_back of_token.Align = refl
+category_back of_token.Parameter = refl
+category_back of_token.Superscript = refl
+category_back of_token.Subscript = refl
+category_back of_token.Space = refl
+category_back of_token.Letter = refl
+category_back of_token.Other = refl
 
 same_category : (c d : TokenCategory) → token_number_of c ≡ token_number_of d → c ≡ d
 same_category c d e =

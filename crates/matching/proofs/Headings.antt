@@ -67,8 +67,8 @@ module _ (limit : ℕ) (long : Bool) where
   heads_fed (text_before x xs ds) t us c =
       let e : t ∷ us ≡ x ∷ (xs ++ c.0) = c.1 in
       let same : x ≡ t = cc in
-      let yes-same : same_token x t ≡ true = subst (λ (y : Token). same_token x y ≡ true) same (token_same x) in
-      subst (λ (s : Step). Heads s us) (sym (cond-true (same_token x t) _ _ yes-same)) (awaiting_heads xs ds us (c.0, cc))
+      let yes_same : same_token x t ≡ true = subst (λ (y : Token). same_token x y ≡ true) same (token_same x) in
+      subst (λ (s : Step). Heads s us) (sym (cond-true (same_token x t) _ _ yes_same)) (awaiting_heads xs ds us (c.0, cc))
   heads_fed (skipping p) t us c = skip_past p t us
   heads_fed (in_group p u) t us c = group_past p u (u ++ t ∷ []) us (deeper 0 (u ++ t ∷ []))
   heads_fed (in_run p d u) t us c = run_past p d (u ++ t ∷ []) us (deeper 0 (settled d (u ++ t ∷ [])))

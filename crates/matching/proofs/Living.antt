@@ -2,7 +2,7 @@
 use Rattle.std.proofs.Common.{◌≡◌, ℕ, zero, suc, ◌+◌, ◌<◌, ◌≤◌, Bool, true, false, ◌⊎◌, List, [], ◌∷◌, ◌++◌, length, Some, Option, sym, refl, ap, ◌∙◌, subst, inl, inr, arith}
 use Rattle.std.proofs.lemmas.List.{append_assoc, append-nil, length-append, length_push, nil_from_length, same_from_push}
 use Rattle.std.proofs.lemmas.Bool.{cases_lt, or_parts, both_ways}
-use Rattle.tokens.specs.declared.token_category.TokenCategory.TheVariants as of-token
+use Rattle.tokens.specs.declared.token_category.TokenCategory.TheVariants as of_token
 use Rattle.tokens.specs.declared.token.Token.{Token}
 use Rattle.tokens.specs.declared.token.Token.TheVariants.{Character}
 use Rattle.matching.specs.Braces.{is_close, has_close, deeper, passed, Balanced}
@@ -13,15 +13,15 @@ use Rattle.matching.proofs.Depths.{Front, close_append, permitted_front, permitt
 use Rattle.matching.proofs.Settling.{Parted, parted, least}
 use Rattle.matching.proofs.Resting.{Rest, Grouping, Running, Completes, taking_back}
 use Rattle.matching.proofs.Valid.{Unfinished, ValidRun, Valid, permitted_none}
-use Rattle.matching.proofs.Groups.{grouping, grown as group-grown}
-use Rattle.matching.proofs.Runs.{permitted_stripped, grown as run-grown}
+use Rattle.matching.proofs.Groups.{grouping, grown as group_grown}
+use Rattle.matching.proofs.Runs.{permitted_stripped, grown as run_grown}
 
 -- the argument 0, and a closing brace
 abbrev digit : Token
-digit = Character of-token.Other 48
+digit = Character of_token.Other 48
 
 abbrev closing : Token
-closing = Character of-token.Close 125
+closing = Character of_token.Close 125
 
 digit_permitted : (long : Bool) → Permitted long (digit ∷ [])
 digit_permitted true = refl
@@ -74,7 +74,7 @@ module _ (limit : ℕ) (long : Bool) where
     group_lives (suc n) u deep ok fits =
         let shut : deeper 0 (u ++ closing ∷ []) ≡ Some n = deeper_push u closing ∙ ap (λ (o : Option ℕ). passed o closing) deep in
         let i = group_lives n (u ++ closing ∷ []) shut (permitted_close long u closing refl ok) (omega (arith, length_push u closing)) in
-        (closing ∷ i.0, i.1, group-grown limit long p u closing i.0 i.1 i.2)
+        (closing ∷ i.0, i.1, group_grown limit long p u closing i.0 i.1 i.2)
 
     -- ---- a delimited argument outside braces: its delimiter is completed
 
@@ -200,7 +200,7 @@ module _ (limit : ℕ) (long : Bool) where
             level_lives d u v q.0 q.2.0 q.1 q.2.1 z
         go (suc m) z rec =
             let i = rec (closed d u v m z) (omega (arith, closed_less d u v m z)) in
-            (closing ∷ i.0, i.1, run-grown limit long p d u closing i.0 i.1 i.2)
+            (closing ∷ i.0, i.1, run_grown limit long p d u closing i.0 i.1 i.2)
 
   pub lives : (h : Phase) → Valid limit long h → (us : List Token) × (args : List (List Token)) × Completes limit long h us args
   lives (text_before x xs ds) v =

@@ -1,17 +1,17 @@
 -- Tests of tokens, and how deep braces are.
 --   is_open, is_close   an explicit brace: a character of category 1, of category 2
---   is_blank           the character 32 of category 10
---   is_par             the name 257, by its number
---   same_token         whether two tokens are the same
---   is_front           whether a list of tokens is the beginning of another
---   all_blank, has_par, has_close   whether each token is blank; whether one is the name 257, a closing brace
---   lowered           one less deep; none at 0
---   passed            the depth behind a token; none where it closes a brace that was not opened
---   deeper_from        the depth behind some tokens, from a depth, if there is one
---   deeper            the depth behind some tokens
---   Balanced          every brace that opens in the tokens closes in them, and none other closes
---   is_zero            whether there is a depth, and it is 0
---   is_balanced        whether tokens are balanced
+--   is_blank            the character 32 of category 10
+--   is_par              the name 257, by its number
+--   same_token          whether two tokens are the same
+--   is_front            whether a list of tokens is the beginning of another
+--   all_blank, has_par, has_close  whether each token is blank; whether one is the name 257, a closing brace
+--   lowered             one less deep; none at 0
+--   passed              the depth behind a token; none where it closes a brace that was not opened
+--   deeper_from         the depth behind some tokens, from a depth, if there is one
+--   deeper              the depth behind some tokens
+--   Balanced            every brace that opens in the tokens closes in them, and none other closes
+--   is_zero             whether there is a depth, and it is 0
+--   is_balanced         whether tokens are balanced
 use Rattle.std.specs.Prelude.{◌≡◌, ℕ, zero, suc, Bool, true, false, cond, ◌&&◌, ◌||◌, List, [], ◌∷◌, Some, None, Option, ◌==◌}
 use Rattle.tokens.specs.declared.token.Token.{Token}
 use Rattle.tokens.specs.declared.token.Token.TheVariants.{Name, Character}

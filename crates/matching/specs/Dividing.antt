@@ -1,21 +1,21 @@
 -- What it is for tokens to be divided into a macro's arguments.
---   Parameters     the tokens before the first parameter, and of each parameter its delimiter: the tokens behind it up to the next
---                  parameter. A parameter whose delimiter is empty is undelimited
---   with_token, with_parameter   the parameters of a text with one more word in front
+--   Parameters      the tokens before the first parameter, and of each parameter its delimiter: the tokens behind it up to the next
+--                   parameter. A parameter whose delimiter is empty is undelimited
+--   with_token, with_parameter  the parameters of a text with one more word in front
 --   parameters_of   the parameters of a parameter text
---   words_of, delimiters_text, text_of   back: the words of tokens in front of a text, the text of delimiters, of parameters
---   front          all tokens but the last
+--   words_of, delimiters_text, text_of  back: the words of tokens in front of a text, the text of delimiters, of parameters
+--   front           all tokens but the last
 --   ends_closed     whether the last token is a closing brace
---   within         tokens without the first and the last
+--   within          tokens without the first and the last
 --   is_group        whether tokens are one group: an opening brace, balanced tokens, a closing brace
---   stripped       tokens without their braces, if they are one group
---   First          in a run and its delimiter, the delimiter stands behind balanced tokens at the end alone
---   Taken          a parameter with a delimiter takes these tokens; the argument that they give, and how many tokens count for it
---   Divided        parameters with some delimiters take these tokens, one parameter behind another; the arguments, and how many tokens count
---   Permitted, AllPermitted   an argument holds no name 257, and none of them does, unless the macro is long
---   Shape          the tokens, all of them, are the text before and what the arguments take; how many count for these
---   most           how many tokens may count for the arguments of a call
---   Division       the tokens, all of them, are a call's: they have that shape, and its arguments are permitted and not too long
+--   stripped        tokens without their braces, if they are one group
+--   First           in a run and its delimiter, the delimiter stands behind balanced tokens at the end alone
+--   Taken           a parameter with a delimiter takes these tokens; the argument that they give, and how many tokens count for it
+--   Divided         parameters with some delimiters take these tokens, one parameter behind another; the arguments, and how many tokens count
+--   Permitted, AllPermitted  an argument holds no name 257, and none of them does, unless the macro is long
+--   Shape           the tokens, all of them, are the text before and what the arguments take; how many count for these
+--   most            how many tokens may count for the arguments of a call
+--   Division        the tokens, all of them, are a call's: they have that shape, and its arguments are permitted and not too long
 use Rattle.std.specs.Prelude.{◌≡◌, ℕ, ◌+◌, ◌≤◌, Bool, true, false, cond, not, ◌&&◌, List, [], ◌∷◌, ◌++◌, length}
 use Rattle.tokens.specs.declared.token.Token.{Token}
 use Rattle.tokens.specs.declared.stored.ParameterWord.{ParameterWord}

@@ -1,7 +1,7 @@
 -- The laws of dividing a call's tokens into arguments.
 --   NoneCloses   no delimiter holds a closing brace
 --   Lawful       what the laws ask of parameters: that, and not too many of them
---   has_closing, parameters_in   whether a parameter text holds a closing brace; how many parameters it has
+--   has_closing, parameters_in  whether a parameter text holds a closing brace; how many parameters it has
 --   Begun        tokens that begin with the text before
 --   Shaped       tokens that have the shape of a call, whatever its arguments hold and however long they are
 --   Permitting   the same, where the arguments are permitted, however long they are

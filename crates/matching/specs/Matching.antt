@@ -1,24 +1,24 @@
 -- How a call's tokens are divided as they are read, one by one.
---   Move          one step of what is read token by token: go on in a phase, or out with an outcome
---   Progress      the finished arguments in their order, how many tokens count for them, and the delimiters of the parameters behind the present one
---   Phase         where a call's reading is. text_before: the next token of the text before the first parameter, what is left of that text, and the
---                 delimiters; skipping: at blanks before an undelimited argument; in_group: behind the brace of its group, with the tokens behind it;
---                 in_run: in a delimited argument, with its delimiter and all tokens read for both
---   Outcome       the arguments, or a refusal
---   Step, refuse  a move of a call; the one that refuses
---   following     the next parameter begins, or all arguments are there
---   ended         an argument is finished
---   awaiting      what is left of the text before is awaited, or the first parameter begins
---   begin         the step at the start of a call
---   fewest        how many tokens some parameters take at least: one for each that is undelimited
---   allowed       a step, unless the tokens that are in the argument now, or how many count for it at least, are refused
---   settled       the part of a delimited argument's tokens that is in the argument whatever follows: all, but for the longest end that
---                 begins the delimiter (or is it) outside braces; settled_from: the same, where some tokens are in it for certain
---   isComplete    whether the delimiter is that end
+--   Move                    one step of what is read token by token: go on in a phase, or out with an outcome
+--   Progress                the finished arguments in their order, how many tokens count for them, and the delimiters of the parameters behind the present one
+--   Phase                   where a call's reading is. text_before: the next token of the text before the first parameter, what is left of that text, and the
+--                           delimiters; skipping: at blanks before an undelimited argument; in_group: behind the brace of its group, with the tokens behind it;
+--                           in_run: in a delimited argument, with its delimiter and all tokens read for both
+--   Outcome                 the arguments, or a refusal
+--   Step, refuse            a move of a call; the one that refuses
+--   following               the next parameter begins, or all arguments are there
+--   ended                   an argument is finished
+--   awaiting                what is left of the text before is awaited, or the first parameter begins
+--   begin                   the step at the start of a call
+--   fewest                  how many tokens some parameters take at least: one for each that is undelimited
+--   allowed                 a step, unless the tokens that are in the argument now, or how many count for it at least, are refused
+--   settled                 the part of a delimited argument's tokens that is in the argument whatever follows: all, but for the longest end that
+--                           begins the delimiter (or is it) outside braces; settled_from: the same, where some tokens are in it for certain
+--   is_complete             whether the delimiter is that end
 --   skipped, grouped, ran   the step at a token before an undelimited argument; in its group; in a delimited argument
---   feed, matching   the step at a token, the steps at many: `long` says whether the macro is long
---   feed_within, matching_within   the same under another limit than 4,096 tokens
---   Run           what many steps come to: still on in a phase, or over with an outcome and the tokens that were not read
+--   feed, matching          the step at a token, the steps at many: `long` says whether the macro is long
+--   feed_within, matching_within  the same under another limit than 4,096 tokens
+--   Run                     what many steps come to: still on in a phase, or over with an outcome and the tokens that were not read
 use Rattle.std.specs.Prelude.{ℕ, ◌+◌, Bool, cond, not, ◌&&◌, List, [], ◌∷◌, ◌++◌, length, Some, None, Option, ◌==◌, nat_le}
 use Rattle.tokens.specs.declared.token.Token.{Token}
 use Rattle.matching.specs.declared.refusal.MatcherRefusal.{MatcherRefusal}

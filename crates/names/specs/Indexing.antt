@@ -1,8 +1,8 @@
 -- The index that a search for a spelling goes by. Places count from 0.
---   bucket_of       the bucket of a spelling, one of 512
---   Newest         m is one past the last place, of those below n, whose spelling is in bucket b; 0 where there is none
---   Bounded        each bucket has its newest place
---   Linked         each place has the newest place below it in its own bucket
+--   bucket_of   the bucket of a spelling, one of 512
+--   Newest      m is one past the last place, of those below n, whose spelling is in bucket b; 0 where there is none
+--   Bounded     each bucket has its newest place
+--   Linked      each place has the newest place below it in its own bucket
 use Rattle.std.specs.Prelude.{◌≡◌, ℕ, ◌+◌, ◌-◌, ◌*◌, ◌%◌, ◌<◌, ◌≤◌, List, [], length, fold, slice_index, slice_index_or}
 use Rattle.names.specs.Naming.{Spellings, Place}
 

@@ -1,19 +1,19 @@
 -- Spellings and their numbers.
 --   Spellings      the spellings in the order in which they were entered: the first has the number 256
 --   find           the number of a spelling, where the first of the list has the number k
---   number_in       the number of a spelling
---   spelling_in     the spelling of a number: none below 256, where the active characters are, and none past the end
---   taken_in        how many numbers are taken, those of the active characters with them
+--   number_in      the number of a spelling
+--   spelling_in    the spelling of a number: none below 256, where the active characters are, and none past the end
+--   taken_in       how many numbers are taken, those of the active characters with them
 --   Entered        what comes of entering a spelling: its number and the spellings then, or a refusal
 --   entered        entering a spelling that is short enough, by the number that it has, if any: at most 1,024 numbers are taken
 --   enter          entering a spelling of at most 32 bytes
---   number_of       what is answered
---   names_after     the spellings after, as before where it was refused
---   enter_all       the spellings after some were entered in turn
+--   number_of      what is answered
+--   names_after    the spellings after, as before where it was refused
+--   enter_all      the spellings after some were entered in turn
 --   Place          a place in the list, counted from 0
 --   Distinct       no spelling stands at two places
---   first_names     the spellings of the sixteen primitives, numbers 256 to 271
---   fault_number    the number of a refusal
+--   first_names    the spellings of the sixteen primitives, numbers 256 to 271
+--   fault_number   the number of a refusal
 use Rattle.std.specs.Prelude.{◌≡◌, ℕ, ◌+◌, ◌-◌, ◌<◌, cond, List, [], ◌∷◌, ◌++◌, length, Some, None, Ok, Err, codes, Option, Result, nat_le, nat_lt, slice_index_or}
 use Rattle.std.specs.List.{slice_get}
 use Rattle.std.specs.Str.{bytes_eq}

@@ -1,10 +1,10 @@
 -- The tasks under way.
---   tasks_of        the tasks, the newest first
---   joint          two prefixes together
---   is_prefix       whether the newest task is a prefix
---   prefixed       a prefix that is the newest task, with another together
---   waiting_of      the tokens that wait at the newest end, the oldest of them first
---   beyond_waiting  the tasks behind these
+--   tasks_of         the tasks, the newest first
+--   joint            two prefixes together
+--   is_prefix        whether the newest task is a prefix
+--   prefixed         a prefix that is the newest task, with another together
+--   waiting_of       the tokens that wait at the newest end, the oldest of them first
+--   beyond_waiting   the tasks behind these
 use Rattle.std.specs.Prelude.{Bool, true, false, ◌||◌, List, [], ◌∷◌, ◌++◌, reverse, vec_items}
 use Rattle.tokens.specs.declared.token.Token.{Token}
 use Rattle.pending.specs.declared.task.Prefix.{Prefix}

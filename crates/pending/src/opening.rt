@@ -2,8 +2,8 @@ ghost use Rattle.std.specs.Prelude.{◌≡◌, [], length, is_some, IfOk, nat_le
 ghost use Rattle.std.specs.Borrow.{sem, follows_if};
 ghost use Rattle.std.specs.Option.{ghost_name_of as name_of, option_map};
 ghost use Rattle.pending.specs.declared.conditional.Part.TheVariants.{First, Second};
-ghost use Rattle.pending.specs.contracts.conditional.Conditional.{the_row as conditional-row};
-ghost use Rattle.pending.specs.contracts.conditionals.Conditionals.{the_row as conditionals-row};
+ghost use Rattle.pending.specs.contracts.conditional.Conditional.{the_row as conditional_row};
+ghost use Rattle.pending.specs.contracts.conditionals.Conditionals.{the_row as conditionals_row};
 ghost use Rattle.pending.specs.Fronts.{front, behind, refronted, joining};
 ghost use Rattle.pending.specs.Opened.{part_in, parts_of, with_innermost};
 
@@ -50,7 +50,7 @@ impl Conditionals {
 
     // The innermost, lent to be changed.
     pub fn innermost(&mut self) -> Option<&mut Conditional>
-        ensures* lent { sem 𝓛 (follows_if conditionals-row conditional-row self.entry.ghost_name (name_of result) (with_innermost self.old) self.old) }
+        ensures* lent { sem 𝓛 (follows_if conditionals_row conditional_row self.entry.ghost_name (name_of result) (with_innermost self.old) self.old) }
         ensures part { option_map (λ x. part_in x.now) result ≡ front (parts_of self.old) }
     {
         self.opened.last_mut()

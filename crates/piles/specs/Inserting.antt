@@ -1,14 +1,14 @@
 -- Putting tokens and words in front of what is put back already.
---   known, known_if  a token that may come from outside: a character, or a name whose number is taken
---   known_token   the token of a word, if it has one that may come from outside
---   tokens_of     the tokens of words, if each word has one (both_of: a first and the others)
---   Put          what comes of putting some: all that is put back then, or a refusal
---   put_back      putting tokens in front: at most 4,096 are put back at a time
---   insert       putting words in front: each is looked at first (insert_by: by their tokens)
---   put_answer    what is answered, at a place
---   held_after    what is put back after, as before where it was refused
---   first_bad     where the first word stands that has no such token, if the first of all has the place k (bad_by: by its token)
---   tokens_in     the tokens of those words that are tokens
+--   known, known_if   a token that may come from outside: a character, or a name whose number is taken
+--   known_token       the token of a word, if it has one that may come from outside
+--   tokens_of         the tokens of words, if each word has one (both_of: a first and the others)
+--   Put               what comes of putting some: all that is put back then, or a refusal
+--   put_back          putting tokens in front: at most 4,096 are put back at a time
+--   insert            putting words in front: each is looked at first (insert_by: by their tokens)
+--   put_answer        what is answered, at a place
+--   held_after        what is put back after, as before where it was refused
+--   first_bad         where the first word stands that has no such token, if the first of all has the place k (bad_by: by its token)
+--   tokens_in         the tokens of those words that are tokens
 use Rattle.std.specs.Prelude.{ℕ, ◌+◌, cond, List, [], ◌∷◌, ◌++◌, length, Some, None, Ok, Err, Option, Result, nat_le, nat_lt}
 use Rattle.std.specs.Option.{option_to_list}
 use Rattle.tokens.specs.declared.token.Token.{Token}

@@ -1,8 +1,8 @@
 -- What a join of two sources is, given what each side is.
 --   join_ahead   the items ahead: the first side's, then the second's
 --   join_place   the place: that of the side read last (by_side: the one of two)
---   Reading     what one read, under categories and names, makes of a source
---   JoinReads   what one read makes of a join: it reads the first side, and where that answers nothing, the second
+--   Reading      what one read, under categories and names, makes of a source
+--   JoinReads    what one read makes of a join: it reads the first side, and where that answers nothing, the second
 --   SecondReads what it makes of the second side, by what was ahead of the first
 use Rattle.std.specs.Prelude.{◌≡◌, List, ◌++◌}
 use Rattle.lines.specs.Line.{Categories, Item}

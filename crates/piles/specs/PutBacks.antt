@@ -1,8 +1,8 @@
 -- What a source with tokens put back is, given what the source below is.
 --   put_back_ahead   the items ahead: the tokens put back, then the items below
 --   put_back_place   the place: the one below
---   PutBackReads   what one read makes of it: the first token is taken, and where there is none, the source below is read
---   ReadsBehind    the same, by the tokens that were put back
+--   PutBackReads     what one read makes of it: the first token is taken, and where there is none, the source below is read
+--   ReadsBehind      the same, by the tokens that were put back
 use Rattle.std.specs.Prelude.{◌≡◌, List, [], ◌∷◌, ◌++◌, map}
 use Rattle.tokens.specs.declared.token.Token.{Token}
 use Rattle.lines.specs.Line.{Item, ready}

@@ -1,12 +1,12 @@
 -- Expandable tokens.
---   argument_at     the argument of a reference, from 1; none beyond
---   substituted    a body with its references replaced by arguments
---   called         a macro's call: its arguments are matched, and the body with them is put back
---   one_feed, two_feed   a token is read; two are
---   expand_after    a token is read, and waits for the expansion of what follows
---   unless_open     refused with 100 conditionals open, before anything is read
---   decided        a conditional is decided: it is open in its first part, or, if it is false, skipped to its \else or \fi
---   compared       two tokens are read, and their meanings decide
+--   argument_at            the argument of a reference, from 1; none beyond
+--   substituted            a body with its references replaced by arguments
+--   called                 a macro's call: its arguments are matched, and the body with them is put back
+--   one_feed, two_feed     a token is read; two are
+--   expand_after           a token is read, and waits for the expansion of what follows
+--   unless_open            refused with 100 conditionals open, before anything is read
+--   decided                a conditional is decided: it is open in its first part, or, if it is false, skipped to its \else or \fi
+--   compared               two tokens are read, and their meanings decide
 --   at_else_of, at_fi_of   an \else, a \fi, by the open conditionals
 use Rattle.std.specs.Prelude.{ℕ, zero, suc, Bool, true, false, cond, List, [], ◌∷◌, ◌++◌, length, Some, None, Option, nat_le, slice_index_or}
 use Rattle.tokens.specs.declared.token.Token.{Token}

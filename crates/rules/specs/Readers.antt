@@ -1,9 +1,9 @@
 -- Where a gullet's reading stands, and the tokens ahead of it.
 --   Position       where it stands: the names, the tokens put back, and the items of the source below
 --   Reader         the position of a call under way, and the tokens that it has read
---   below_stream    the tokens of the source below, nothing being put back any more; some tokens being read already
---   held_stream     the tokens put back, and then more
---   tokens_from     the tokens ahead of a reader under some categories
+--   below_stream   the tokens of the source below, nothing being put back any more; some tokens being read already
+--   held_stream    the tokens put back, and then more
+--   tokens_from    the tokens ahead of a reader under some categories
 --   put            the same place in the source, with other tokens put back
 use Rattle.std.specs.Prelude.{List, [], ◌∷◌, ◌++◌}
 use Rattle.tokens.specs.declared.token.Token.{Token}

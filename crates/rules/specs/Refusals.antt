@@ -1,8 +1,8 @@
 -- Why a call is refused.
 --   refusal_number   the number of a refusal of the gullet's own
---   Cause           a refused read, or the refusal of a layer
+--   Cause            a refused read, or the refusal of a layer
 --   cause_number     the number of a cause, by its layer
---   Fault           a cause, and the scanning status in which it came; its place is the source's
+--   Fault            a cause, and the scanning status in which it came; its place is the source's
 use Rattle.std.specs.Prelude.{ℕ}
 use Rattle.sources.specs.declared.fault.ReadRefusal.{ReadRefusal}
 use Rattle.sources.specs.declared.fault.PileRefusal.{PileRefusal}

@@ -1,7 +1,7 @@
 -- Skipping: tokens are read without expansion, and nested conditionals are counted by meaning.
---   Mark           what a token is to a skip: it begins a conditional, is an \else, ends one, or none of these
---   mark_of         the mark of a meaning
---   skip_feed       one token skipped, some conditionals having begun inside
+--   Mark        what a token is to a skip: it begins a conditional, is an \else, ends one, or none of these
+--   mark_of     the mark of a meaning
+--   skip_feed   one token skipped, some conditionals having begun inside
 use Rattle.std.specs.Prelude.{ℕ, zero, suc}
 use Rattle.tokens.specs.declared.token.Token.{Token}
 use Rattle.matching.specs.Matching.{Move}

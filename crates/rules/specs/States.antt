@@ -1,18 +1,18 @@
 -- The state of a gullet between calls, and how calls end.
---   State          where reading stands, the book, the open conditionals (innermost first), the pending tasks (newest first)
---   new            the state of a new gullet over some items
---   Stepped        an answer or a fault, the state after, and the tokens that the call read
---   ends           an answer of a step, where reading stands then, with the state after
---   refuse         a step refused where reading stands now: the tokens read are lost and so are the tasks, the names entered stay, and nothing else changes
---   answers        an answer of an outside call, with the state after
+--   State           where reading stands, the book, the open conditionals (innermost first), the pending tasks (newest first)
+--   new             the state of a new gullet over some items
+--   Stepped         an answer or a fault, the state after, and the tokens that the call read
+--   ends            an answer of a step, where reading stands then, with the state after
+--   refuse          a step refused where reading stands now: the tokens read are lost and so are the tasks, the names entered stay, and nothing else changes
+--   answers         an answer of an outside call, with the state after
 --   turned_away     an outside call refused: nothing changes
---   at             a state with reading elsewhere
---   waiting        a result behind the tokens that wait for it
---   completed      an expansion is complete: its result and what waits for it are put back, all or nothing
---   finished       what comes of tokens read under a status, where the outcome of reading goes on
+--   at              a state with reading elsewhere
+--   waiting         a result behind the tokens that wait for it
+--   completed       an expansion is complete: its result and what waits for it are put back, all or nothing
+--   finished        what comes of tokens read under a status, where the outcome of reading goes on
 --   categories_of   the categories of all codes
 --   meanings_of     the meanings of all names
---   ahead          the tokens ahead of a reader
+--   ahead           the tokens ahead of a reader
 use Rattle.std.specs.Prelude.{ℕ, List, [], ◌++◌, map, Ok, Err, Result}
 use Rattle.std.specs.List.{range_with_len}
 use Rattle.tokens.specs.declared.token.Token.{Token}

@@ -1,11 +1,11 @@
 -- A step: one token is read, and does what it means.
 --   character_act   what a character does
---   grouped        a group opened or closed, or refused by the book
---   free           with no task pending
---   prefixed       behind prefixes: explicit spaces and \relax pass, prefixes add up, an assignment runs
---   unexpandable   by the newest task; where a token waits, this one is put back
---   obeyed, ruled  what a primitive does, what a meaning does
---   step           the step
+--   grouped         a group opened or closed, or refused by the book
+--   free            with no task pending
+--   prefixed        behind prefixes: explicit spaces and \relax pass, prefixes add up, an assignment runs
+--   unexpandable    by the newest task; where a token waits, this one is put back
+--   obeyed, ruled   what a primitive does, what a meaning does
+--   step            the step
 use Rattle.std.specs.Prelude.{ℕ, true, false, cond, List, [], ◌∷◌, Ok, Err, Result}
 use Rattle.tokens.specs.declared.token_category.TokenCategory.{TokenCategory}
 use Rattle.tokens.specs.declared.token_category.TokenCategory.TheVariants as category

@@ -1,11 +1,11 @@
 -- What tokens mean and are.
---   Meanings       what each name means
---   meaning        what a token means: a name by these, a character itself
+--   Meanings            what each name means
+--   meaning             what a token means: a name by these, a character itself
 --   is_hash, is_space   whether it means a character of category 6, of category 10
 --   is_equals, is_quote the explicit characters = and ` of category 12
---   digit_of        the digit of an explicit character of category 12
---   is_digit        whether it is the explicit digit of a number
---   same_meaning    whether two meanings agree: macros do if long, parameter text and body do
+--   digit_of            the digit of an explicit character of category 12
+--   is_digit            whether it is the explicit digit of a number
+--   same_meaning        whether two meanings agree: macros do if long, parameter text and body do
 use Rattle.std.specs.Prelude.{ℕ, ◌+◌, ◌-◌, Bool, true, false, cond, not, ◌&&◌, List, [], ◌∷◌, Some, None, Option, ◌==◌, nat_le}
 use Rattle.tokens.specs.declared.token.Token.{Token}
 use Rattle.tokens.specs.declared.token.Token.TheVariants.{Name, Character}

@@ -1,10 +1,10 @@
 -- The tokens ahead of a source: what its items give, once names have their numbers.
---   Ahead       the tokens in order, each with the names and the items once it is read; ended by nothing or a refused read
---   numbered    pieces, with numbers for what they spell
---   ahead_of     the tokens ahead, by categories, names and items
---   head_answer, head_names, head_items   what one read answers at a place, and leaves
---   Reads       the same as a relation: what was ahead began with what was read
---   extent      the bytes and ready tokens in a list of items
+--   Ahead      the tokens in order, each with the names and the items once it is read; ended by nothing or a refused read
+--   numbered   pieces, with numbers for what they spell
+--   ahead_of   the tokens ahead, by categories, names and items
+--   head_answer, head_names, head_items  what one read answers at a place, and leaves
+--   Reads      the same as a relation: what was ahead began with what was read
+--   extent     the bytes and ready tokens in a list of items
 use Rattle.std.specs.Prelude.{◌≡◌, ℕ, ◌+◌, ◌<◌, List, [], ◌∷◌, length, Some, None, Ok, Err, Option, Result}
 use Rattle.tokens.specs.declared.token.Token.{Token}
 use Rattle.tokens.specs.declared.token.Token.TheVariants as tokens

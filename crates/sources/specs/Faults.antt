@@ -1,6 +1,6 @@
 -- Number, layer and place of the faults of reading.
 --   line_number, pile_number  the numbers of a line's and a pile's own refusals
---   read_number, read_layer   of a refused read
+--   read_number, read_layer  of a refused read
 --   fault_number, fault_layer, fault_place  of a pile's fault, which may keep a line's
 use Rattle.std.specs.Prelude.{ℕ}
 use Rattle.names.specs.Naming as names

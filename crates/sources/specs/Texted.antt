@@ -2,7 +2,7 @@
 --   text_lines   all its lines, as they are read
 --   text_ahead   the items ahead: what is left of the line, and the lines to come
 --   text_place   its place
---   MadeText    what making a text of some bytes answers: 49 exactly over 65,536 bytes, at 0, 0
+--   MadeText     what making a text of some bytes answers: 49 exactly over 65,536 bytes, at 0, 0
 use Rattle.std.specs.Prelude.{◌≡◌, ℕ, List, length, drop, Err, vec_items, MatchBool, Result, MatchResult, nat_lt}
 use Rattle.lines.specs.Line.{Item, left}
 use Rattle.sources.specs.declared.fault.Place.{Place}

@@ -1,13 +1,13 @@
 -- What a text is as a source.
---   lines_of     the lines of a text: byte 10 ends one, and a last part without it is one if it is not empty
---   first_line, after_line  the bytes before the first byte 10, and those behind it
---   trimmed     a line without its trailing bytes 32
---   made        a line as it is read: trimmed, with byte 13 at its end
---   made_lines   all the lines of a text as they are read
---   total       the bytes of some lines together
---   place_at     the line and its byte at which the last of so many bytes stands
---   Begun       how far a text's lines are begun
---   place_in     the place in a text, by its lines and the items ahead: where the last byte stands that is taken or dropped
+--   lines_of                 the lines of a text: byte 10 ends one, and a last part without it is one if it is not empty
+--   first_line, after_line   the bytes before the first byte 10, and those behind it
+--   trimmed                  a line without its trailing bytes 32
+--   made                     a line as it is read: trimmed, with byte 13 at its end
+--   made_lines               all the lines of a text as they are read
+--   total                    the bytes of some lines together
+--   place_at                 the line and its byte at which the last of so many bytes stands
+--   Begun                    how far a text's lines are begun
+--   place_in                 the place in a text, by its lines and the items ahead: where the last byte stands that is taken or dropped
 use Rattle.std.specs.Prelude.{◌≡◌, ℕ, zero, suc, ◌+◌, ◌-◌, ◌≤◌, cond, List, [], ◌∷◌, ◌++◌, map, length, drop, ◌==◌, nat_le, slice_index_or}
 use Rattle.lines.specs.declared.piece.LineState.TheVariants.{NewLine}
 use Rattle.lines.specs.Line.{Item, rest}

@@ -1,7 +1,7 @@
 -- Worked cases of the line rules: what reads of a text answer, one after another, at first.
---   text_reads   the answers of some reads of a text, each fault with its place
---   first_reads  the same for a text that nothing was read of, under the first categories and names
---   LineCases   the cases
+--   text_reads    the answers of some reads of a text, each fault with its place
+--   first_reads   the same for a text that nothing was read of, under the first categories and names
+--   LineCases     the cases
 use Rattle.std.specs.Prelude.{◌≡◌, ℕ, zero, suc, List, [], ◌∷◌, Some, None, Ok, Err, codes, Option, Result}
 use Rattle.tokens.specs.declared.token_category.TokenCategory.TheVariants.{Space, Letter}
 use Rattle.tokens.specs.declared.token.Token.{Token}

@@ -1,9 +1,9 @@
 -- What assignments do.
---   macro_given_lem, let_given_lem   what a list of tokens gives a name is what was read, for the name and then behind it
---   Gives          a meaning gives a name what the tokens behind it say
---   defined, let_as_lem, recoded   the book records an assignment, or refuses it
---   defines_name, lets_name, recodes   the three kinds of assignment
---   assigns        an assignment behind a token whose meaning gives so
+--   macro_given_lem, let_given_lem  what a list of tokens gives a name is what was read, for the name and then behind it
+--   Gives     a meaning gives a name what the tokens behind it say
+--   defined, let_as_lem, recoded  the book records an assignment, or refuses it
+--   defines_name, lets_name, recodes  the three kinds of assignment
+--   assigns   an assignment behind a token whose meaning gives so
 use Rattle.std.proofs.Common.{◌≡◌, ℕ, ◌+◌, Bool, true, false, cond, ◌||◌, ltb, List, [], ◌∷◌, ◌++◌, length, Some, None, Err, Option, Result, sym, refl, ap, ◌∙◌, subst, append-nil}
 use Rattle.tokens.specs.declared.category.Category.{Category}
 use Rattle.tokens.specs.Categories.{category_of}

@@ -1,8 +1,8 @@
 -- A book and the lines on its names and codes, and that each operation that it allows keeps them together.
---   Booked         the tables tell what the lines do, after any number of closings, and as many groups are open as openings are left
---   booked_same    of a book that is the same
---   booked_new, booked_opened, booked_closed, booked_named, booked_coded   of a new book, and of a book after each operation
---   found          what a table holds is what survives
+--   Booked        the tables tell what the lines do, after any number of closings, and as many groups are open as openings are left
+--   booked_same   of a book that is the same
+--   booked_new, booked_opened, booked_closed, booked_named, booked_coded  of a new book, and of a book after each operation
+--   found         what a table holds is what survives
 use Rattle.std.proofs.Common.{◌≡◌, ℕ, suc, true, false, List, [], ◌∷◌, length, sym, refl, ap, ◌∙◌, subst, arith}
 use Rattle.tokens.specs.declared.category.Category.{Category}
 use Rattle.tokens.specs.declared.answer.GroupKind.{GroupKind}

@@ -1,7 +1,7 @@
 -- What calls from outside do.
---   Outside        a call that gives a name this meaning, if any; the tasks behind Working and behind a refusal are those before
---   when_idle      where a task is pending it is refused
---   inserts, binds, opens_host, closes_host   each call
+--   Outside     a call that gives a name this meaning, if any; the tasks behind Working and behind a refusal are those before
+--   when_idle   where a task is pending it is refused
+--   inserts, binds, opens_host, closes_host  each call
 use Rattle.std.proofs.Common.{◌≡◌, ℕ, ◌+◌, Bool, true, false, cond, not, ltb, leb, List, [], ◌∷◌, length, Err, Result, refl}
 use Rattle.tokens.specs.declared.stored.BodyWord.{BodyWord}
 use Rattle.tokens.specs.declared.answer.GroupKind.TheVariants.{Host}

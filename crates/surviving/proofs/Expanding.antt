@@ -1,8 +1,8 @@
 -- What expandable tokens do: their result is put back, and the tasks that waited for it are done.
---   Beyond         behind a meaning and any tokens, the tasks left are those beyond the waiting ones
---   completes      an expansion is complete
---   unless_open_lem    refused with 100 conditionals open, else so
---   waits, calls, decides, compares, turns, closes   \expandafter, macros, \iftrue and \iffalse, \ifx, \else, \fi
+--   Beyond            behind a meaning and any tokens, the tasks left are those beyond the waiting ones
+--   completes         an expansion is complete
+--   unless_open_lem   refused with 100 conditionals open, else so
+--   waits, calls, decides, compares, turns, closes  \expandafter, macros, \iftrue and \iffalse, \ifx, \else, \fi
 use Rattle.std.proofs.Common.{◌≡◌, ℕ, Bool, true, false, cond, leb, List, [], ◌∷◌, ◌++◌, length, None, sym, refl, ap, ◌∙◌, arith}
 use Rattle.tokens.specs.declared.token.Token.{Token}
 use Rattle.matching.specs.Matching.{on}

@@ -1,11 +1,11 @@
 -- What a call leaves, by its answer.
---   Named, Coded    a book after an operation on names, on codes, that its table does not refuse
---   Leaves          the state that a call leaves, where g is the meaning that its tokens give a name, w the tasks behind Working and e
---                   those behind a refusal
---   Does            the same of a call, by the tokens that it read
+--   Named, Coded           a book after an operation on names, on codes, that its table does not refuse
+--   Leaves                 the state that a call leaves, where g is the meaning that its tokens give a name, w the tasks behind Working and e
+--                          those behind a refusal
+--   Does                   the same of a call, by the tokens that it read
 --   given_in, working_in   the meaning that the tokens of a step give, and the tasks behind Working, by meanings and tasks
---   Steps           what a step does
---   Behind          a reader has read a token of this meaning, and these tokens behind it
+--   Steps                  what a step does
+--   Behind                 a reader has read a token of this meaning, and these tokens behind it
 use Rattle.std.proofs.Common.{◌≡◌, true, false, List, [], ◌∷◌, ◌++◌, Ok, Err, Result, ap, ◌∙◌}
 use Rattle.tokens.specs.declared.category.Category.{Category}
 use Rattle.tokens.specs.declared.token.Token.{Token}

@@ -1,10 +1,10 @@
 -- What a step does.
---   Fits           what an unexpandable act asks of the meaning that acts so
---   opens, shuts   a group opened or closed, or refused by the book
+--   Fits                    what an unexpandable act asks of the meaning that acts so
+--   opens, shuts            a group opened or closed, or refused by the book
 --   freely, behind_prefix   with no task pending; behind prefixes
---   acts           what an unexpandable token does, by the newest task
---   obeys, rules   what a primitive does, what a meaning does
---   steps          the step
+--   acts                    what an unexpandable token does, by the newest task
+--   obeys, rules            what a primitive does, what a meaning does
+--   steps                   the step
 use Rattle.std.proofs.Common.{◌≡◌, ℕ, Bool, true, false, cond, not, leb, List, [], ◌∷◌, length, sym, refl, ap, ◌∙◌}
 use Rattle.tokens.specs.declared.token_category.TokenCategory.{TokenCategory}
 use Rattle.tokens.specs.declared.token_category.TokenCategory.TheVariants as category

@@ -1,15 +1,15 @@
 -- A diary of what calls did, from which a closing strikes lines. It is fed each call with its arguments, the tokens that it read and its answer.
---   Diary          the lines on names, those on codes, and beside them the tasks pending
---   empty          of a new gullet
+--   Diary                    the lines on names, those on codes, and beside them the tasks pending
+--   empty                    of a new gullet
 --   found_name, found_code   what a name means, the category of a code: by its last assignment left, or as at first
---   list_stream     a list of tokens as what is ahead
+--   list_stream              a list of tokens as what is ahead
 --   macro_given, let_given   the meaning that the tokens behind \def or \gdef give a name; those behind \let
---   step_given      the meaning that the tokens of a step give a name, by the diary so far
---   given          the same of a call
---   tasks_working   the tasks pending behind a step that answers Working, by the tokens that it read
---   written        the diary with a call's lines: Opened writes an opening, Closed strikes the newest opening left and all local assignments
---                  after it, Assigned writes the name or the code; all else writes nothing
---   kept           the diary of a list of calls, from a state and a diary on
+--   step_given               the meaning that the tokens of a step give a name, by the diary so far
+--   given                    the same of a call
+--   tasks_working            the tasks pending behind a step that answers Working, by the tokens that it read
+--   written                  the diary with a call's lines: Opened writes an opening, Closed strikes the newest opening left and all local assignments
+--                            after it, Assigned writes the name or the code; all else writes nothing
+--   kept                     the diary of a list of calls, from a state and a diary on
 use Rattle.std.specs.Prelude.{ℕ, Bool, true, false, List, [], ◌∷◌, Ok, Err, Option, Result}
 use Rattle.tokens.specs.declared.category.Category.{Category}
 use Rattle.tokens.specs.declared.token.Token.{Token}

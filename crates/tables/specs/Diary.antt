@@ -3,7 +3,7 @@
 --   Diary      its lines, the newest first
 --   struck     the newest opening left struck, and with it every local assignment after it
 --   written    the diary after one operation
---   diary_of    the diary of operations, in the order of time (diary_from: going on from a diary)
+--   diary_of   the diary of operations, in the order of time (diary_from: going on from a diary)
 --   survivor   the last assignment to a key that is left, or its first value
 use Rattle.std.specs.Prelude.{ℕ, cond, List, [], ◌∷◌, ◌==◌}
 use Rattle.tables.specs.Table.{Op, open_group, close_group, assign_locally, assign_globally}

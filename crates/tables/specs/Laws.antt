@@ -1,9 +1,9 @@
 -- The laws of a table of groups, over every list of operations on a new table and every limit of records.
---   balanced       the operations close every group that they open, and no other; n of theirs are open already
---   nothing_global  none of them assigns globally
---   Survives       every key is found with its last assignment left in the diary of what was done, or its first value
---   LeavesNoTrace  open, then anything balanced with nothing global, then close: values, how each was assigned
---                  and the records are as before the opening
+--   balanced         the operations close every group that they open, and no other; n of theirs are open already
+--   nothing_global   none of them assigns globally
+--   Survives         every key is found with its last assignment left in the diary of what was done, or its first value
+--   LeavesNoTrace    open, then anything balanced with nothing global, then close: values, how each was assigned
+--                    and the records are as before the opening
 use Rattle.std.specs.Prelude.{◌≡◌, ℕ, zero, suc, Bool, true, false, T, List, [], ◌∷◌, ◌++◌}
 use Rattle.tables.specs.Table.{Op, open_group, close_group, assign_locally, assign_globally, run, done, new, is_zero}
 use Rattle.tables.specs.Diary.{diary_of, survivor}

@@ -1,8 +1,8 @@
 -- A table whose values are read through a function, and what holds of every value in it.
 --   read_by   the same table with each value read through f; how each was assigned stays
 --   op_by     the same operation with its value read through f
---   Holds    a test holds of every value in a state, present or saved
---   entry_by, saved_by, all_saved, all_in   the same of an entry, a record, the records of a group, all groups
+--   Holds     a test holds of every value in a state, present or saved
+--   entry_by, saved_by, all_saved, all_in  the same of an entry, a record, the records of a group, all groups
 use Rattle.std.specs.Prelude.{◌≡◌, ℕ, Bool, true, ◌&&◌, List, [], ◌∷◌, map}
 use Rattle.tables.specs.declared.Entry.{Entry}
 use Rattle.tables.specs.declared.Saved.{Saved}

@@ -3,18 +3,18 @@
 --   Groups           the save records of each open group, the innermost group first, in each the newest record first
 --   State            the table and the groups
 --   Op               what can be done: open a group, close one, assign locally or globally
---   is_zero           whether a level is 0
+--   is_zero          whether a level is 0
 --   put              a table with another entry at one key
 --   restored         one record undone; an entry whose present value is global is passed over
 --   undone           the records of a group undone, the newest first
 --   opened, closed   a group opened; the innermost closed (closed_in: by its parts)
---   needs_record      whether a local assignment to a key takes a record (needs_in: by its parts)
+--   needs_record     whether a local assignment to a key takes a record (needs_in: by its parts)
 --   recorded         one more record in the innermost group
---   saved_in          the groups after a local assignment
+--   saved_in         the groups after a local assignment
 --   assigned         a local assignment, with its record if it takes one
 --   assigned_globally a global one
 --   records          how many records all open groups have (records_in: by its parts)
---   none_open         no group is open
+--   none_open        no group is open
 --   refused          whether an operation is refused, where there are `limit` records
 --   step, tried      what an operation makes of a state; the same where a refused one changes nothing
 --   run, done        operations tried one after another; those of them that were not refused

@@ -4,7 +4,7 @@ use Rattle.std.proofs.lemmas.Bool.{cond_both, eqb-true}
 use Rattle.tokens.specs.declared.category.Category.{Category}
 use Rattle.tokens.specs.declared.category.Category.TheVariants.{Escape, Open, Close, Math, Align, EndLine, Parameter, Superscript, Subscript, Ignored, Space, Letter, Other, Active, Comment, Invalid}
 use Rattle.tokens.specs.declared.token_category.TokenCategory.{TokenCategory}
-use Rattle.tokens.specs.declared.token_category.TokenCategory.TheVariants as of-token
+use Rattle.tokens.specs.declared.token_category.TokenCategory.TheVariants as of_token
 use Rattle.tokens.specs.Categories.{number_of, category_of, token_number_of, token_category_of}
 
 pub category_back : (c : Category) → category_of (number_of c) ≡ Some c
@@ -43,9 +43,9 @@ category_number n =
 pub token_category_number : (n : ℕ) → Numbered token_number_of n (token_category_of n)
 token_category_number n =
     let r = row token_number_of n in
-    r 1 of-token.Open _ refl (r 2 of-token.Close _ refl (r 3 of-token.Math _ refl (r 4 of-token.Align _ refl (r 6 of-token.Parameter _ refl
-    (r 7 of-token.Superscript _ refl (r 8 of-token.Subscript _ refl (r 10 of-token.Space _ refl (r 11 of-token.Letter _ refl
-    (r 12 of-token.Other _ refl tt)))))))))
+    r 1 of_token.Open _ refl (r 2 of_token.Close _ refl (r 3 of_token.Math _ refl (r 4 of_token.Align _ refl (r 6 of_token.Parameter _ refl
+    (r 7 of_token.Superscript _ refl (r 8 of_token.Subscript _ refl (r 10 of_token.Space _ refl (r 11 of_token.Letter _ refl
+    (r 12 of_token.Other _ refl tt)))))))))
 
 pub category_below : (c : Category) → number_of c < 16
 category_below Escape = omega arith
@@ -66,13 +66,13 @@ category_below Comment = omega arith
 category_below Invalid = omega arith
 
 pub token_category_below : (c : TokenCategory) → token_number_of c < 13
-token_category_below of-token.Open = omega arith
-token_category_below of-token.Close = omega arith
-token_category_below of-token.Math = omega arith
-token_category_below of-token.Align = omega arith
-token_category_below of-token.Parameter = omega arith
-token_category_below of-token.Superscript = omega arith
-token_category_below of-token.Subscript = omega arith
-token_category_below of-token.Space = omega arith
-token_category_below of-token.Letter = omega arith
-token_category_below of-token.Other = omega arith
+token_category_below of_token.Open = omega arith
+token_category_below of_token.Close = omega arith
+token_category_below of_token.Math = omega arith
+token_category_below of_token.Align = omega arith
+token_category_below of_token.Parameter = omega arith
+token_category_below of_token.Superscript = omega arith
+token_category_below of_token.Subscript = omega arith
+token_category_below of_token.Space = omega arith
+token_category_below of_token.Letter = omega arith
+token_category_below of_token.Other = omega arith

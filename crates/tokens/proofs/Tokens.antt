@@ -4,7 +4,7 @@ use Rattle.std.specs.Option.{option_map}
 use Rattle.std.proofs.lemmas.Bool.{cond_both, eqb-true, lt-ltb}
 use Rattle.std.proofs.lemmas.Nat.{shr_high, mod_low, shr_split}
 use Rattle.tokens.specs.declared.token_category.TokenCategory.{TokenCategory}
-use Rattle.tokens.specs.declared.token_category.TokenCategory.TheVariants as of-token
+use Rattle.tokens.specs.declared.token_category.TokenCategory.TheVariants as of_token
 use Rattle.tokens.specs.declared.token.Token.{Token}
 use Rattle.tokens.specs.declared.token.Token.TheVariants.{Name, Character}
 use Rattle.tokens.specs.Categories.{token_number_of, token_category_of}
@@ -22,16 +22,16 @@ pub fields : (w : ℕ) → word (w / 2 ^ 28) (w % 2 ^ 28) ≡ w
 fields w = shr_split w 28
 
 by_kind : (c : TokenCategory) (b : ℕ) → b < 2 ^ 8 → token_by_kind (token_number_of c) b ≡ Some (Character c b)
-by_kind of-token.Open b h = rw (lt-ltb b 256 h)
-by_kind of-token.Close b h = rw (lt-ltb b 256 h)
-by_kind of-token.Math b h = rw (lt-ltb b 256 h)
-by_kind of-token.Align b h = rw (lt-ltb b 256 h)
-by_kind of-token.Parameter b h = rw (lt-ltb b 256 h)
-by_kind of-token.Superscript b h = rw (lt-ltb b 256 h)
-by_kind of-token.Subscript b h = rw (lt-ltb b 256 h)
-by_kind of-token.Space b h = rw (lt-ltb b 256 h)
-by_kind of-token.Letter b h = rw (lt-ltb b 256 h)
-by_kind of-token.Other b h = rw (lt-ltb b 256 h)
+by_kind of_token.Open b h = rw (lt-ltb b 256 h)
+by_kind of_token.Close b h = rw (lt-ltb b 256 h)
+by_kind of_token.Math b h = rw (lt-ltb b 256 h)
+by_kind of_token.Align b h = rw (lt-ltb b 256 h)
+by_kind of_token.Parameter b h = rw (lt-ltb b 256 h)
+by_kind of_token.Superscript b h = rw (lt-ltb b 256 h)
+by_kind of_token.Subscript b h = rw (lt-ltb b 256 h)
+by_kind of_token.Space b h = rw (lt-ltb b 256 h)
+by_kind of_token.Letter b h = rw (lt-ltb b 256 h)
+by_kind of_token.Other b h = rw (lt-ltb b 256 h)
 
 pub token_by_kind_lem : (t : Token) → Held t → (kind low : ℕ) → word_of t ≡ word kind low → low < 2 ^ 28 → token_by_kind kind low ≡ Some t
 token_by_kind_lem (Name n) h kind low e l =

@@ -1,7 +1,7 @@
 -- The categories that codes have at first.
 --   is_letter_code     A to Z and a to z
---   first_category    the category of a code
---   first_categories  those of the codes 0 to 255
+--   first_category     the category of a code
+--   first_categories   those of the codes 0 to 255
 use Rattle.std.specs.Prelude.{ℕ, Bool, cond, ◌&&◌, ◌||◌, List, map, ◌==◌, nat_le}
 use Rattle.std.specs.List.{range_with_len}
 use Rattle.tokens.specs.declared.category.Category.{Category}

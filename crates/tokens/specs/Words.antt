@@ -1,10 +1,10 @@
 -- The words of tokens and answers: 32 bits, the kind in the four highest.
 --   word_of       the word of a token: kind, then a name's number or a character's code
 --   token_of      the token of a word, if it is one
---   Held         the numbers that a token of the program can hold
+--   Held          the numbers that a token of the program can hold
 --   answer_word   the word of an answer; End and Working have none
 --   answer_of     the answer of a word, if it is one
---   HeldAnswer   the numbers that an answer of the program can hold
+--   HeldAnswer    the numbers that an answer of the program can hold
 use Rattle.std.specs.Prelude.{ℕ, ◌+◌, ◌*◌, ◌/◌, ◌%◌, ◌^◌, ◌<◌, cond, Some, None, Option, ◌==◌, nat_lt}
 use Rattle.std.specs.Option.{option_map}
 use Rattle.tokens.specs.declared.token.Token.{Token}

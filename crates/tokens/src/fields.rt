@@ -19,7 +19,8 @@ pub(crate) fn low_of(word: u32) -> u32
 }
 
 pub(crate) fn word_of(kind: u32, low: u32) -> u32
-    requires { (kind < 2 ^ 4) × (low < 2 ^ 28) }
+    requires kind_fits { kind < 2 ^ 4 }
+    requires low_fits { low < 2 ^ 28 }
     ensures { result ≡ made kind low }
 {
     kind << KIND_SHIFT | low

@@ -5,5 +5,5 @@ use Rattle.tokens.proofs.fields.word_of.Goals as goal
 
 pub returns : goal.returns
 returns c =
-    ap (λ h. bit_or h c.args.low) (shl_whole c.args.kind 4 28 32 c.requires.0 (omega arith))
-    ∙ or_shifted c.args.kind 28 c.args.low c.requires.1
+    ap (λ h. bit_or h c.args.low) (shl_whole c.args.kind 4 28 32 c.requires.kind_fits (omega arith))
+    ∙ or_shifted c.args.kind 28 c.args.low c.requires.low_fits
