@@ -7,12 +7,10 @@
 --   progress_on, phase_on, outcome_on, move_on, step_on_lem, parameters_on  a weaker relation relates them too
 use Rattle.std.proofs.Common.{◌≡◌, List}
 use Rattle.tokens.specs.declared.token.Token.{Token}
-use Rattle.matching.specs.Matching.{Move}
-use Rattle.matching.specs.Matching.{on, out}
 use Rattle.matching.specs.declared.refusal.MatcherRefusal.{MatcherRefusal}
 use Rattle.matching.specs.Braces.{is_open, is_close, is_blank, is_par, same_token}
 use Rattle.matching.specs.Dividing.{Parameters}
-use Rattle.matching.specs.Matching.{Progress, Phase, text_before, skipping, in_group, in_run, Outcome, matched, refused, Step}
+use Rattle.matching.specs.Matching.{Move, on, out, Progress, Phase, text_before, skipping, in_group, in_run, Outcome, matched, refused, Step}
 use Rattle.alike.specs.Same.{Each}
 use Rattle.alike.proofs.CallsEach.{each_on, each_each_on}
 

@@ -3,12 +3,10 @@
 --   SameOption   two options
 use Rattle.std.proofs.Common.{ℕ, Bool, true, false, leb, List, [], ◌∷◌, length, Some, None, Option, refl, ap, subst}
 use Rattle.tokens.specs.declared.token.Token.{Token}
-use Rattle.matching.specs.Matching.{Move}
-use Rattle.matching.specs.Matching.{on, out}
 use Rattle.tokens.specs.declared.stored.ParameterWord.{ParameterWord}
 use Rattle.tokens.specs.declared.stored.BodyWord.{BodyWord}
 use Rattle.names.specs.Naming.{Spellings}
-use Rattle.matching.specs.Matching.{Outcome, feed}
+use Rattle.matching.specs.Matching.{Move, on, out, Outcome, feed}
 use Rattle.driving.specs.declared.status.Status.TheVariants.{Normal, Matching, Skipping}
 use Rattle.pending.specs.declared.conditional.Part.{Part}
 use Rattle.pending.specs.declared.conditional.Part.TheVariants.{First, Second}

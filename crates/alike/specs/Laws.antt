@@ -1,15 +1,15 @@
 -- States that are the same as spelled answer alike.
---   Sound         no spelling has two numbers, and the first sixteen names have theirs
---   SameMeaning, SameParameterWord, SameBodyWord  two meanings, two words of a macro
---   SameEntry     two entries of a table: the same meaning, assigned in the same way
---   Untouched     an entry that is as at first, with no meaning
---   SameSaved     two save records
---   SameTables    two tables of names, with their save records
---   SameTask      two tasks
---   items_of      the items ahead from a position
---   SameState     two states: the same items ahead, tables, groups, conditionals and tasks; how many words definitions have used, and how
---                 many of the items are put back, may differ
---   AnswerAlike   such states answer the same calls alike
+--   Sound                                          no spelling has two numbers, and the first sixteen names have theirs
+--   SameMeaning, SameParameterWord, SameBodyWord   two meanings, two words of a macro
+--   SameEntry                                      two entries of a table: the same meaning, assigned in the same way
+--   Untouched                                      an entry that is as at first, with no meaning
+--   SameSaved                                      two save records
+--   SameTables                                     two tables of names, with their save records
+--   SameTask                                       two tasks
+--   items_of                                       the items ahead from a position
+--   SameState                                      two states: the same items ahead, tables, groups, conditionals and tasks; how many words definitions have used, and how
+--                                                  many of the items are put back, may differ
+--   AnswerAlike                                    such states answer the same calls alike
 use Rattle.std.specs.Prelude.{◌≡◌, ℕ, ◌≤◌, Bool, ◌⊎◌, List, ◌++◌, map, length}
 use Rattle.tokens.specs.declared.token_category.TokenCategory.{TokenCategory}
 use Rattle.tokens.specs.declared.token.Token.{Token}

@@ -1,8 +1,7 @@
 -- One turn of a rule that is fed: a token read and fed, or none to read.
 use Rattle.std.proofs.Common.{◌≡◌, suc, List, Err, sym, refl, ap, ◌∙◌}
 use Rattle.tokens.specs.declared.token.Token.{Token}
-use Rattle.matching.specs.Matching.{Move}
-use Rattle.matching.specs.Matching.{on}
+use Rattle.matching.specs.Matching.{Move, on}
 use Rattle.lines.specs.Line.{Categories, Item}
 use Rattle.names.specs.Naming.{Spellings}
 use Rattle.sources.specs.declared.fault.Place.{Place}

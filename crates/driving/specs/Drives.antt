@@ -7,8 +7,7 @@
 --   size        how many tokens are ahead
 use Rattle.std.specs.Prelude.{◌≡◌, ℕ, suc, Ok, Err, Result}
 use Rattle.tokens.specs.declared.token.Token.{Token}
-use Rattle.matching.specs.Matching.{Move}
-use Rattle.matching.specs.Matching.{on, out}
+use Rattle.matching.specs.Matching.{Move, on, out}
 use Rattle.names.specs.Naming.{Spellings}
 use Rattle.sources.specs.declared.fault.Place.{Place}
 use Rattle.sources.specs.declared.fault.ReadRefusal.{ReadRefusal}

@@ -1,4 +1,4 @@
-ghost use Rattle.std.specs.Prelude.{◌≡◌, ◌+◌, ◌≤◌, min, leb, [], ◌++◌, length, IfOk, if◌then◌else◌, vec_len, vec_capacity, nat_le};
+ghost use Rattle.std.specs.Prelude.{◌≡◌, ◌+◌, ◌≤◌, min, [], ◌++◌, length, IfOk, if◌then◌else◌, vec_len, vec_capacity, nat_le};
 ghost use Rattle.matcher.specs.Held.{arguments_of};
 ghost use Rattle.expanding.specs.Substituting.{argument_at, word_tokens, substituted, expansion_of};
 
@@ -91,7 +91,7 @@ impl Expansion {
     // Writes the tokens that a body gives with these arguments, and tells whether they fit; where they do not, none are written.
     pub fn substitute(&mut self, arguments: &Arguments, body: &[BodyWord]) -> bool
         ensures answer { result ≡ nat_le (length (substituted (arguments_of arguments.now) body.now)) 4096 }
-        ensures tokens { expansion_of self.new ≡ (if leb (length (substituted (arguments_of arguments.now) body.now)) 4096 then substituted (arguments_of arguments.now) body.now else []) }
+        ensures tokens { expansion_of self.new ≡ (if nat_le (length (substituted (arguments_of arguments.now) body.now)) 4096 then substituted (arguments_of arguments.now) body.now else []) }
     {
         self.tokens.clear();
         if expansion_length(arguments, body) > EXPANSION_LIMIT {

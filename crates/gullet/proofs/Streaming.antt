@@ -1,8 +1,7 @@
 -- What a put-back has ahead is what the rules say, and a rule that is fed it comes to the same.
 use Rattle.std.proofs.Common.{◌≡◌, List, [], ◌∷◌, ◌++◌, map, refl, ap}
 use Rattle.tokens.specs.declared.token.Token.{Token}
-use Rattle.matching.specs.Matching.{Move}
-use Rattle.matching.specs.Matching.{on, out}
+use Rattle.matching.specs.Matching.{Move, on, out}
 use Rattle.lines.specs.Line.{Categories, Item, ready}
 use Rattle.names.specs.Naming.{Spellings}
 use Rattle.sources.specs.declared.fault.Place.{Place}

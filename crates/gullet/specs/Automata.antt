@@ -1,4 +1,4 @@
--- Rules that hold a count.
+-- What rules that are fed tokens answer, and the count that a phase may hold.
 --   meant    a move of the code, as the rules say it
 --   Within   the phase that a move goes on to holds at most n
 use Rattle.std.specs.Prelude.{ℕ, ◌≤◌}

@@ -2,7 +2,7 @@
 --   view_by      where reading is, by stage, parameter text, parameters, body and depth
 --   view         the same, by a spot and a draft
 --   end_of       what comes of it, the words being in the draft
---   moved        a move by one token
+--   moved        a move of the code by one token, as the rules say it
 --   defined_of   an answer
 use Rattle.std.specs.Prelude.{ℕ, List, Ok, Err, vec_items, Result}
 use Rattle.tokens.specs.declared.moves.Move as code

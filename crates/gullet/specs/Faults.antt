@@ -1,8 +1,8 @@
 -- Number, layer and place of the gullet's faults.
---   number_of, layer_of, place_of  of a cause, which may keep a pile's fault
---   cause_at   a cause that the rules name, at a place
---   fault_at   a fault that the rules name, at a place
---   placed     an answer or a fault of the rules, at a place
+--   number_of, layer_of, place_of   of a cause, which may keep a pile's fault
+--   cause_at                        a cause that the rules name, at a place
+--   fault_at                        a fault that the rules name, at a place
+--   placed                          an answer or a fault of the rules, at a place
 use Rattle.std.specs.Prelude.{ℕ, Ok, Err, Result}
 use Rattle.tokens.specs.declared.layer.Layer.{Layer}
 use Rattle.tokens.specs.declared.layer.Layer.TheVariants as layer

@@ -1,8 +1,7 @@
 -- One more argument in the space of a call.
 use Rattle.std.proofs.Common.{◌≡◌, ℕ, ◌+◌, ◌<◌, true, List, [], ◌∷◌, ◌++◌, length, take, vec_items, vec_len, Vec, sym, refl, ap, ◌∙◌, arith}
 use Rattle.tokens.specs.declared.token.Token.{Token}
-use Rattle.matching.specs.Matching.{on}
-use Rattle.matching.specs.Matching.{Progress, skipping, in_run, following, ended}
+use Rattle.matching.specs.Matching.{on, Progress, skipping, in_run, following, ended}
 use Rattle.matcher.specs.declared.span.Span.{Span}
 use Rattle.matcher.specs.Spans.{parts_of, all_within}
 use Rattle.matcher.proofs.Buffers.{all_before}

@@ -1,13 +1,12 @@
 -- What a division of a call's tokens says of the call.
 use Rattle.std.proofs.Common.{◌≡◌, ℕ, Bool, List, [], Ok, Err, sym, refl, ap, arith}
 use Rattle.tokens.specs.declared.token.Token.{Token}
-use Rattle.matching.specs.Matching.{out}
 use Rattle.tokens.specs.declared.stored.ParameterWord.{ParameterWord}
 use Rattle.lines.specs.Line.{Categories, Item}
 use Rattle.names.specs.Naming.{Spellings}
 use Rattle.sources.specs.declared.fault.Place.{Place}
 use Rattle.matching.specs.Dividing.{parameters_of}
-use Rattle.matching.specs.Matching.{Outcome, matched, refused, begin}
+use Rattle.matching.specs.Matching.{out, Outcome, matched, refused, begin}
 use Rattle.driving.specs.declared.status.Status.{Status}
 use Rattle.driving.specs.Streams.{Standing, standing}
 use Rattle.driving.specs.Drives.{Driven, came, ended, failed, stands_at}

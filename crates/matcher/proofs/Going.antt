@@ -1,14 +1,13 @@
 -- How readings of a call join.
 use Rattle.std.proofs.Common.{◌≡◌, Bool, List, Err, refl, ap, ◌∙◌}
 use Rattle.tokens.specs.declared.token.Token.{Token}
-use Rattle.matching.specs.Matching.{on}
 use Rattle.lines.specs.Line.{Categories, Item}
 use Rattle.names.specs.Naming.{Spellings}
 use Rattle.sources.specs.declared.fault.Place.{Place}
 use Rattle.sources.specs.declared.fault.PileFault.{PileFault}
 use Rattle.sources.specs.declared.fault.PileFault.TheVariants as pile
 use Rattle.matching.specs.declared.refusal.MatcherRefusal.{MatcherRefusal}
-use Rattle.matching.specs.Matching.{Step, Phase, refuse, feed}
+use Rattle.matching.specs.Matching.{on, Step, Phase, refuse, feed}
 use Rattle.driving.specs.Streams.{Stream, token, Standing, standing, stream, Takes}
 use Rattle.driving.specs.Drives.{drive, stands_at}
 use Rattle.calls.specs.declared.fault.MatcherCause.{MatcherCause}

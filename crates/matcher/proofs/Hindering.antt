@@ -2,12 +2,11 @@
 use Rattle.std.proofs.Common.{◌≡◌, ℕ, ◌+◌, ◌≤◌, Bool, true, false, cond, not, ◌&&◌, ◌||◌, leb, List, [], ◌∷◌, ◌++◌, length, Some, None, Option, sym, refl, ap, ◌∙◌, arith}
 use Rattle.std.proofs.lemmas.Bool.{leb-true, false≢true}
 use Rattle.tokens.specs.declared.token.Token.{Token}
-use Rattle.matching.specs.Matching.{on}
 use Rattle.matching.specs.declared.refusal.MatcherRefusal.{MatcherRefusal}
 use Rattle.matching.specs.declared.refusal.MatcherRefusal.TheVariants.{Par, TooLong}
 use Rattle.matching.specs.Braces.{is_par, has_par, passed, deeper}
 use Rattle.matching.specs.Dividing.{Permitted, most}
-use Rattle.matching.specs.Matching.{Progress, Step, refuse, fewest, allowed, in_group, ended, grouped, feed}
+use Rattle.matching.specs.Matching.{on, Progress, Step, refuse, fewest, allowed, in_group, ended, grouped, feed}
 use Rattle.matching.proofs.Depths.{par_append, deeper_push}
 use Rattle.matcher.specs.Hindering.{hindrance}
 

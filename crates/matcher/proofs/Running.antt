@@ -3,11 +3,10 @@ use Rattle.std.proofs.Common.{◌≡◌, ℕ, ◌+◌, ◌≤◌, Bool, true, fa
 use Rattle.std.proofs.lemmas.List.{append_assoc, append_cancel_left, take-append-drop, take-append-le, drop-append-le, length-append, length-take-le}
 use Rattle.std.proofs.lemmas.Bool.{cond-false, cond_both, and_from, and_parts, false≢true}
 use Rattle.tokens.specs.declared.token.Token.{Token}
-use Rattle.matching.specs.Matching.{on}
 use Rattle.matching.specs.declared.refusal.MatcherRefusal.TheVariants.{Unmatched}
 use Rattle.matching.specs.Braces.{has_par, same_token, is_front, deeper, is_balanced}
 use Rattle.matching.specs.Dividing.{stripped, Permitted, most}
-use Rattle.matching.specs.Matching.{Progress, Step, refuse, fewest, in_run, ended, settled_from, settled, is_complete, ran, feed}
+use Rattle.matching.specs.Matching.{on, Progress, Step, refuse, fewest, in_run, ended, settled_from, settled, is_complete, ran, feed}
 use Rattle.matching.proofs.Settling.{Parted, parted}
 use Rattle.matcher.specs.Hindering.{hindrance}
 use Rattle.matcher.specs.Marks.{Marked}

@@ -3,11 +3,10 @@ use Rattle.std.proofs.Common.{◌≡◌, ℕ, ◌+◌, Bool, true, false, cond, 
 use Rattle.std.proofs.lemmas.Bool.{cond-true, cond-false, false≢true}
 use Rattle.tokens.specs.declared.token.Token.{Token}
 use Rattle.tokens.specs.declared.token.Token.TheVariants.{Name, Character}
-use Rattle.matching.specs.Matching.{on}
 use Rattle.matching.specs.declared.refusal.MatcherRefusal.TheVariants.{Unmatched}
 use Rattle.matching.specs.Braces.{is_open, is_close, is_blank, is_par}
 use Rattle.matching.specs.Dividing.{most}
-use Rattle.matching.specs.Matching.{Progress, refuse, fewest, allowed, skipping, in_group, ended, feed}
+use Rattle.matching.specs.Matching.{on, Progress, refuse, fewest, allowed, skipping, in_group, ended, feed}
 use Rattle.matcher.specs.Hindering.{hindrance}
 use Rattle.matcher.proofs.Hindering.{by, allowed_is, par_one}
 

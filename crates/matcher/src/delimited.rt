@@ -1,8 +1,7 @@
 ghost use Rattle.std.specs.Prelude.{◌≡◌, ◌+◌, ◌-◌, ◌≤◌, [], length, take, drop, IfOk, vec_len, vec_capacity, MatchResult};
-ghost use Rattle.matching.specs.Matching.{on};
 ghost use Rattle.names.specs.Spelled.{listed};
 ghost use Rattle.matching.specs.Dividing.{stripped};
-ghost use Rattle.matching.specs.Matching.{Progress, in_run, ended};
+ghost use Rattle.matching.specs.Matching.{on, Progress, in_run, ended};
 ghost use Rattle.matcher.specs.Going.{Leads, Fails};
 ghost use Rattle.matcher.specs.Hindering.{Under};
 ghost use Rattle.matcher.specs.Marks.{delimiter_in};

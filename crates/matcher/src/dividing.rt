@@ -1,9 +1,8 @@
 ghost use Rattle.std.specs.Prelude.{◌≡◌, ◌≤◌, length, vec_len, MatchResult};
-ghost use Rattle.matching.specs.Matching.{out};
 ghost use Rattle.names.specs.Spelled.{listed};
 ghost use Rattle.matching.specs.Dividing.{parameters_of};
 ghost use Rattle.matching.specs.Laws.{parameters_in};
-ghost use Rattle.matching.specs.Matching.{begin, matched};
+ghost use Rattle.matching.specs.Matching.{out, begin, matched};
 ghost use Rattle.matcher.specs.Going.{Leads, Fails};
 ghost use Rattle.matcher.specs.Held.{arguments_of};
 

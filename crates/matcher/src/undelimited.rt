@@ -1,8 +1,7 @@
 ghost use Rattle.std.specs.Prelude.{◌≡◌, ◌+◌, ◌-◌, ◌≤◌, Bool, false, [], take, drop, IfOk, if◌then◌else◌, vec_len, vec_capacity, MatchResult, OnOk};
-ghost use Rattle.matching.specs.Matching.{on};
 ghost use Rattle.names.specs.Spelled.{listed};
 ghost use Rattle.matching.specs.Braces.{is_open, is_blank};
-ghost use Rattle.matching.specs.Matching.{Progress, skipping, in_group, ended, feed};
+ghost use Rattle.matching.specs.Matching.{on, Progress, skipping, in_group, ended, feed};
 ghost use Rattle.matcher.specs.Going.{Leads, Fails};
 ghost use Rattle.matcher.specs.Hindering.{Under};
 

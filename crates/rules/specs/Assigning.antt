@@ -1,18 +1,17 @@
 -- Assignments.
---   scope_of       the scope of an assignment
---   name_feed      blanks are skipped, and a name is taken, if one is there
---   named          the name is taken, else 31
---   recorded_as    an assignment to a name or code is recorded in the book, or refused by it
---   defining, letting, recoding  the three kinds of assignment, behind the token that begins them
---   let_feed       spaces, one = and one space are passed, and a token is taken
---   subject_feed   \catcode's quote and the token behind it
---   byte_of        the code that this token stands for: a character's, an active one's, that of a name of one byte
---   number_feed    an optional = and digits up to 15, with the token behind them
+--   scope_of                      the scope of an assignment
+--   name_feed                     blanks are skipped, and a name is taken, if one is there
+--   named                         the name is taken, else 31
+--   recorded_as                   an assignment to a name or code is recorded in the book, or refused by it
+--   defining, letting, recoding   the three kinds of assignment, behind the token that begins them
+--   let_feed                      spaces, one = and one space are passed, and a token is taken
+--   subject_feed                  \catcode's quote and the token behind it
+--   byte_of                       the code that this token stands for: a character's, an active one's, that of a name of one byte
+--   number_feed                   an optional = and digits up to 15, with the token behind them
 use Rattle.std.specs.Prelude.{ℕ, ◌+◌, ◌*◌, Bool, true, false, cond, ◌||◌, List, [], ◌∷◌, Some, None, Ok, Err, Option, Result, nat_le, nat_lt}
 use Rattle.tokens.specs.declared.token.Token.{Token}
 use Rattle.tokens.specs.declared.token.Token.TheVariants.{Name, Character}
-use Rattle.matching.specs.Matching.{Move}
-use Rattle.matching.specs.Matching.{on, out}
+use Rattle.matching.specs.Matching.{Move, on, out}
 use Rattle.tokens.specs.declared.category.Category.{Category}
 use Rattle.tokens.specs.Categories.{category_of}
 use Rattle.tokens.specs.declared.answer.Scope.{Scope}

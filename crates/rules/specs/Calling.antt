@@ -1,11 +1,11 @@
 -- Calls from outside, and lists of calls.
---   idle                    an outside call is refused 37 while a task is pending
---   insert                  a list of words in front of what is ahead
---   bytes_body              the body of a bound macro: byte 32 as a character of category 10, all others of category 12
---   bind                    a spelling is assigned the macro of some bytes
---   open_host, close_host   a host group
---   Call, perform           a call, and what it answers and leaves
---   answers_of, state_after  the answers of a list of calls, and the state that it leaves
+--   idle                      an outside call is refused 37 while a task is pending
+--   insert                    a list of words in front of what is ahead
+--   bytes_body                the body of a bound macro: byte 32 as a character of category 10, all others of category 12
+--   bind                      a spelling is assigned the macro of some bytes
+--   open_host, close_host     a host group
+--   Call, perform             a call, and what it answers and leaves
+--   answers_of, state_after   the answers of a list of calls, and the state that it leaves
 use Rattle.std.specs.Prelude.{ℕ, false, cond, List, [], ◌∷◌, map, length, Ok, Err, Result, ◌==◌, nat_lt}
 use Rattle.tokens.specs.declared.token_category.TokenCategory.TheVariants.{Space, Other}
 use Rattle.tokens.specs.declared.token.Token.TheVariants.{Character}

@@ -10,15 +10,13 @@
 --   at_else_of, at_fi_of   an \else, a \fi, by the open conditionals
 use Rattle.std.specs.Prelude.{ℕ, zero, suc, Bool, true, false, cond, List, [], ◌∷◌, ◌++◌, length, Some, None, Option, nat_le, slice_index_or}
 use Rattle.tokens.specs.declared.token.Token.{Token}
-use Rattle.matching.specs.Matching.{Move}
-use Rattle.matching.specs.Matching.{on, out}
 use Rattle.tokens.specs.declared.stored.ParameterWord.{ParameterWord}
 use Rattle.tokens.specs.declared.stored.BodyWord.{BodyWord}
 use Rattle.tokens.specs.declared.stored.BodyWord.TheVariants as body
 use Rattle.tokens.specs.declared.answer.Answer.TheVariants.{Working}
 use Rattle.matching.specs.Dividing.{parameters_of}
 use Rattle.matching.specs.Matching as call
-use Rattle.matching.specs.Matching.{Outcome, begin, feed}
+use Rattle.matching.specs.Matching.{Move, on, out, Outcome, begin, feed}
 use Rattle.driving.specs.Drives.{drive}
 use Rattle.rules.specs.declared.refusal.GulletRefusal.TheVariants.{Misplaced, ConditionalsFull, TasksFull}
 use Rattle.driving.specs.declared.status.Status.TheVariants.{Normal, Matching, Skipping}

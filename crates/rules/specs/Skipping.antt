@@ -4,8 +4,7 @@
 --   skip_feed   one token skipped, some conditionals having begun inside
 use Rattle.std.specs.Prelude.{ℕ, zero, suc}
 use Rattle.tokens.specs.declared.token.Token.{Token}
-use Rattle.matching.specs.Matching.{Move}
-use Rattle.matching.specs.Matching.{on, out}
+use Rattle.matching.specs.Matching.{Move, on, out}
 use Rattle.book.specs.declared.meaning.Primitive.{Primitive}
 use Rattle.book.specs.declared.meaning.Primitive.TheVariants.{Relax, Par, Def, Gdef, Let, Global, Long, Catcode, BeginGroup, EndGroup, ExpandAfter, Ifx, IfTrue, IfFalse, Else, Fi}
 use Rattle.book.specs.Meanings.{Means, undefined, primitive, character, macro}

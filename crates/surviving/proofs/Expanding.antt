@@ -5,7 +5,6 @@
 --   waits, calls, decides, compares, turns, closes  \expandafter, macros, \iftrue and \iffalse, \ifx, \else, \fi
 use Rattle.std.proofs.Common.{◌≡◌, ℕ, Bool, true, false, cond, leb, List, [], ◌∷◌, ◌++◌, length, None, sym, refl, ap, ◌∙◌, arith}
 use Rattle.tokens.specs.declared.token.Token.{Token}
-use Rattle.matching.specs.Matching.{on}
 use Rattle.tokens.specs.declared.stored.ParameterWord.{ParameterWord}
 use Rattle.tokens.specs.declared.stored.BodyWord.{BodyWord}
 use Rattle.tokens.specs.declared.answer.Answer.TheVariants.{Working}
@@ -13,7 +12,7 @@ use Rattle.piles.specs.Inserting as piles
 use Rattle.piles.specs.Inserting.{Put, put_back}
 use Rattle.matching.specs.Dividing.{parameters_of}
 use Rattle.matching.specs.Matching as call
-use Rattle.matching.specs.Matching.{Outcome, begin, feed}
+use Rattle.matching.specs.Matching.{on, Outcome, begin, feed}
 use Rattle.book.specs.declared.meaning.Primitive.TheVariants.{ExpandAfter}
 use Rattle.book.specs.Meanings.{Means, primitive}
 use Rattle.driving.specs.declared.status.Status.TheVariants.{Normal, Matching, Skipping}

@@ -5,8 +5,7 @@
 --   reading            what holds of every end of a reading: of each outcome over the tokens read, and of each refusal
 use Rattle.std.proofs.Common.{◌≡◌, List, [], ◌∷◌, ◌++◌, sym, refl, ap, ◌∙◌, append_assoc, append-nil}
 use Rattle.tokens.specs.declared.token.Token.{Token}
-use Rattle.matching.specs.Matching.{Move}
-use Rattle.matching.specs.Matching.{on, out}
+use Rattle.matching.specs.Matching.{Move, on, out}
 use Rattle.lines.specs.Line.{Categories, Item}
 use Rattle.names.specs.Naming.{Spellings}
 use Rattle.sources.specs.declared.fault.PileRefusal.TheVariants.{Ended}

@@ -3,12 +3,11 @@ use Rattle.std.proofs.lemmas.List.{length_push, drop-take, take-take}
 use Rattle.std.proofs.lemmas.Result.{err_from_is_err_and}
 use Rattle.std.proofs.lemmas.Bool.{cond-true, cond-false, eq-eqb, ne_eqb}
 use Rattle.tokens.specs.declared.token.Token.{Token}
-use Rattle.matching.specs.Matching.{on}
 use Rattle.names.specs.Spelled.{listed}
 use Rattle.matching.specs.declared.refusal.MatcherRefusal.TheVariants.{Unmatched}
 use Rattle.matching.specs.Braces.{deeper}
 use Rattle.matching.specs.Dividing.{stripped}
-use Rattle.matching.specs.Matching.{in_run, ended, settled, settled_from}
+use Rattle.matching.specs.Matching.{on, in_run, ended, settled, settled_from}
 use Rattle.matching.proofs.Valid.{permitted_none}
 use Rattle.matcher.specs.declared.mark.Mark.{Mark}
 use Rattle.matcher.specs.Hindering.{hindrance}

@@ -1,11 +1,10 @@
 use Rattle.std.proofs.Common.{◌≡◌, ℕ, ◌+◌, ◌-◌, Bool, [], ◌∷◌, ◌++◌, take, drop, Some, None, vec_items, vec_len, sym, refl, ap, ◌∙◌, subst, arith}
 use Rattle.std.proofs.lemmas.List.{length_push}
 use Rattle.std.proofs.lemmas.Result.{err_from_is_err_and}
-use Rattle.matching.specs.Matching.{on}
 use Rattle.names.specs.Spelled.{listed}
 use Rattle.matching.specs.Braces.{deeper, is_par}
 use Rattle.matching.specs.Dividing.{Permitted}
-use Rattle.matching.specs.Matching.{in_group, ended, feed}
+use Rattle.matching.specs.Matching.{on, in_group, ended, feed}
 use Rattle.matching.proofs.Valid.{permitted_none}
 use Rattle.matcher.specs.Hindering.{hindrance}
 use Rattle.matcher.proofs.Buffers.{long_from, none_from, all_before, pushed_from, pushed_before}

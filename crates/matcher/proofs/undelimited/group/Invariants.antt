@@ -1,9 +1,8 @@
 use Rattle.std.proofs.Common.{◌≡◌, ◌+◌, ◌-◌, ◌≤◌, [], take, drop, Some, vec_items, vec_len, vec_capacity}
-use Rattle.matching.specs.Matching.{on}
 use Rattle.names.specs.Spelled.{listed}
 use Rattle.matching.specs.Braces.{deeper}
 use Rattle.matching.specs.Dividing.{Permitted}
-use Rattle.matching.specs.Matching.{Progress, in_group}
+use Rattle.matching.specs.Matching.{on, Progress, in_group}
 use Rattle.driving.specs.Streams.{stream}
 use Rattle.driving.specs.Drives.{size}
 use Rattle.matcher.specs.Going.{Leads}

@@ -1,10 +1,9 @@
 use Rattle.std.proofs.Common.{sym}
 use Rattle.std.proofs.lemmas.Bool.{cond-true}
 use Rattle.std.proofs.lemmas.Result.{err_from_is_err_and}
-use Rattle.matching.specs.Matching.{on}
 use Rattle.names.specs.Spelled.{listed}
 use Rattle.matching.specs.Braces.{is_blank}
-use Rattle.matching.specs.Matching.{skipping}
+use Rattle.matching.specs.Matching.{on, skipping}
 use Rattle.matcher.proofs.Going.{stay, onward, turned, fails, read, unread}
 use Rattle.matcher.proofs.undelimited.unblanked.Goals as goal
 

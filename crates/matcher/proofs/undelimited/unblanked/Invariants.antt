@@ -1,7 +1,6 @@
 use Rattle.std.proofs.Common.{Bool}
-use Rattle.matching.specs.Matching.{on}
 use Rattle.names.specs.Spelled.{listed}
-use Rattle.matching.specs.Matching.{Progress, skipping}
+use Rattle.matching.specs.Matching.{on, Progress, skipping}
 use Rattle.driving.specs.Streams.{stream}
 use Rattle.driving.specs.Drives.{size}
 use Rattle.matcher.specs.Going.{Leads}
