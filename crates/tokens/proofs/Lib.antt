@@ -1,3 +1,4 @@
 mod Numbers
 mod Tokens
 mod Answering
+mod Reading

@@ -5,8 +5,10 @@
 --   answer_word   the word of an answer; End and Working have none
 --   answer_of     the answer of a word, if it is one
 --   HeldAnswer    the numbers that an answer of the program can hold
-use Rattle.std.specs.Prelude.{ℕ, ◌+◌, ◌*◌, ◌/◌, ◌%◌, ◌^◌, ◌<◌, cond, Some, None, Option, ◌==◌, nat_lt}
-use Rattle.std.specs.Option.{option_map}
+--   ReadsToken    what reading a token's word gives: the one token that has it, or an error with the word
+--   ReadsAnswer   the same of an answer
+use Rattle.std.specs.Prelude.{ℕ, ◌+◌, ◌*◌, ◌/◌, ◌%◌, ◌^◌, ◌<◌, cond, Some, None, Option, ◌==◌, nat_lt, ◌≡◌, Result, Ok, IfOk}
+use Rattle.std.specs.Option.{option_map, ok_or}
 use Rattle.tokens.specs.declared.token.Token.{Token}
 use Rattle.tokens.specs.declared.token.Token.TheVariants.{Name, Character}
 use Rattle.tokens.specs.declared.answer.GroupKind.{GroupKind}
@@ -17,6 +19,7 @@ use Rattle.tokens.specs.declared.answer.Entry.{Entry}
 use Rattle.tokens.specs.declared.answer.Entry.TheVariants as entry
 use Rattle.tokens.specs.declared.answer.Answer.{Answer}
 use Rattle.tokens.specs.declared.answer.Answer.TheVariants.{Delivered, Opened, Closed, Assigned, End, Working}
+use Rattle.tokens.specs.declared.unknown.Unknown.{Unknown}
 use Rattle.tokens.specs.Categories.{number_of, category_of, token_number_of, token_category_of}
 
 -- a kind and the bits below it
@@ -100,3 +103,12 @@ HeldAnswer (Closed g) = Unit {0}
 HeldAnswer (Assigned s e) = HeldEntry e
 HeldAnswer End = Unit {0}
 HeldAnswer Working = Unit {0}
+
+abbrev pub ReadsToken : ℕ → Result Token Unknown → Type 0
+ReadsToken w r =
+    (r ≡ ok_or (token_of w) (record { 0 = w })) × IfOk r (λ t. word_of t ≡ w) × ((t : Token) → Held t → word_of t ≡ w → r ≡ Ok t)
+
+abbrev pub ReadsAnswer : ℕ → Result Answer Unknown → Type 0
+ReadsAnswer w r =
+    (r ≡ ok_or (answer_of w) (record { 0 = w })) × IfOk r (λ a. answer_word a ≡ Some w)
+    × ((a : Answer) → HeldAnswer a → answer_word a ≡ Some w → r ≡ Ok a)

@@ -1,13 +1,14 @@
 ghost use Rattle.std.specs.Prelude.{◌≡◌, ◌+◌, ◌/◌, ◌%◌, ◌^◌, ◌<◌, IfSome, Some};
-ghost use Rattle.std.specs.Option.{option_map};
+ghost use Rattle.std.specs.Option.{option_map, ok_or};
 ghost use Rattle.tokens.specs.Categories.{category_of};
 ghost use Rattle.tokens.specs.declared.answer.Entry.TheVariants.{Code};
-ghost use Rattle.tokens.specs.Words.{group_number, group_of, scope_bits, scope_of, entry_bits, entry_of, HeldEntry, assigned_of, answer_word, answer_by_kind, answer_of, HeldAnswer};
+ghost use Rattle.tokens.specs.Words.{group_number, group_of, scope_bits, scope_of, entry_bits, entry_of, HeldEntry, assigned_of, answer_word, answer_by_kind, answer_of, ReadsAnswer};
 
 use crate::answer::{Answer, Entry, GroupKind, Scope};
 use crate::category::Category;
 use crate::fields::{kind_of, low_of, word_of};
 use crate::token::Token;
+use crate::unknown::Unknown;
 
 const OPENED: u32 = 13;
 
@@ -19,21 +20,25 @@ const GLOBAL_BIT: u32 = 1 << 27;
 
 const CODE_BIT: u32 = 1 << 26;
 
-impl GroupKind {
-    pub fn number(self) -> u8
-        ensures { result ≡ group_number self }
-    {
-        self as u8
-    }
+impl From<GroupKind> for u32 {
+    ghost from_gives = { λ g n. n ≡ group_number g };
 
-    fn from_bits(bits: u32) -> Option<GroupKind>
-        ensures { result ≡ group_of bits }
-    {
-        match bits {
-            0 => Some(GroupKind::Brace),
-            1 => Some(GroupKind::BeginGroup),
-            2 => Some(GroupKind::Host),
-            _ => None,
+    fn from(group: GroupKind) -> u32 {
+        group as u32
+    }
+}
+
+impl TryFrom<u32> for GroupKind {
+    type Error = Unknown;
+
+    ghost try_from_gives = { λ n r. r ≡ ok_or (group_of n) (record { 0 = n }) };
+
+    fn try_from(number: u32) -> Result<GroupKind, Unknown> {
+        match number {
+            0 => Ok(GroupKind::Brace),
+            1 => Ok(GroupKind::BeginGroup),
+            2 => Ok(GroupKind::Host),
+            _ => Err(Unknown(number)),
         }
     }
 }
@@ -58,7 +63,7 @@ impl Entry {
         match self {
             Entry::Name(number) => u32::from(number),
             Entry::Code(code, category) => CODE_BIT
-                + (u32::from(category.number()) * 256 + u32::from(code)),
+                + (u32::from(u8::from(category)) * 256 + u32::from(code)),
         }
     }
 
@@ -67,10 +72,7 @@ impl Entry {
     {
         let low = bits % CODE_BIT;
         if bits / CODE_BIT == 0 {
-            return match u16::try_from(low) {
-                Ok(number) => Some(Entry::Name(number)),
-                Err(_) => None,
-            };
+            return Some(Entry::Name(u16::try_from(low).ok()?));
         }
         coded(low)
     }
@@ -83,41 +85,34 @@ impl Answer {
         ensures back { IfSome result (λ w. answer_of w ≡ Some self) }
     {
         match self {
-            Answer::Delivered(token) => Some(token.word()),
-            Answer::Opened(group) => Some(word_of(OPENED, u32::from(group.number()))),
-            Answer::Closed(group) => Some(word_of(CLOSED, u32::from(group.number()))),
+            Answer::Delivered(token) => Some(u32::from(token)),
+            Answer::Opened(group) => Some(word_of(OPENED, u32::from(group))),
+            Answer::Closed(group) => Some(word_of(CLOSED, u32::from(group))),
             Answer::Assigned(scope, entry) => Some(word_of(ASSIGNED, scope.bits() + entry.bits())),
             Answer::End | Answer::Working => None,
         }
-    }
-
-    // The one answer that has this word; none where the kind is no answer's or an unused bit is set.
-    pub fn from_word(word: u32) -> Option<Answer>
-        ensures value { result ≡ answer_of word }
-        ensures exact { IfSome result (λ a. answer_word a ≡ Some word) }
-        ensures every { (a : Answer) → HeldAnswer a → answer_word a ≡ Some word → result ≡ Some a }
-    {
-        Answer::from_fields(kind_of(word), low_of(word))
     }
 
     fn from_fields(kind: u32, low: u32) -> Option<Answer>
         ensures { result ≡ answer_by_kind kind low }
     {
         match kind {
-            OPENED => match GroupKind::from_bits(low) {
-                Some(group) => Some(Answer::Opened(group)),
-                None => None,
-            },
-            CLOSED => match GroupKind::from_bits(low) {
-                Some(group) => Some(Answer::Closed(group)),
-                None => None,
-            },
+            OPENED => Some(Answer::Opened(GroupKind::try_from(low).ok()?)),
+            CLOSED => Some(Answer::Closed(GroupKind::try_from(low).ok()?)),
             ASSIGNED => assigned(low),
-            _ => match Token::from_fields(kind, low) {
-                Some(token) => Some(Answer::Delivered(token)),
-                None => None,
-            },
+            _ => Some(Answer::Delivered(Token::from_fields(kind, low)?)),
         }
+    }
+}
+
+// The one answer that has this word; none where the kind is no answer's or an unused bit is set.
+impl TryFrom<u32> for Answer {
+    type Error = Unknown;
+
+    ghost try_from_gives = { ReadsAnswer };
+
+    fn try_from(word: u32) -> Result<Answer, Unknown> {
+        Answer::from_fields(kind_of(word), low_of(word)).ok_or(Unknown(word))
     }
 }
 
@@ -125,14 +120,9 @@ impl Answer {
 fn coded(low: u32) -> Option<Entry>
     ensures { result ≡ option_map (λ c. Code (low % 2 ^ 8) c) (category_of (low / 2 ^ 8)) }
 {
-    let code = (low % 256) as u8;
-    let Ok(number) = u8::try_from(low / 256) else {
-        return None;
-    };
-    match Category::from_number(number) {
-        Some(category) => Some(Entry::Code(code, category)),
-        None => None,
-    }
+    let number = u8::try_from(low / 256).ok()?;
+    let category = Category::try_from(number).ok()?;
+    Some(Entry::Code((low % 256) as u8, category))
 }
 
 fn assigned(low: u32) -> Option<Answer>
@@ -143,8 +133,6 @@ fn assigned(low: u32) -> Option<Answer>
     } else {
         Scope::Global
     };
-    match Entry::from_bits(low % GLOBAL_BIT) {
-        Some(entry) => Some(Answer::Assigned(scope, entry)),
-        None => None,
-    }
+    let entry = Entry::from_bits(low % GLOBAL_BIT)?;
+    Some(Answer::Assigned(scope, entry))
 }

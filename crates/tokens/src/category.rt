@@ -1,8 +1,11 @@
 ghost use Rattle.std.specs.Prelude.{◌≡◌};
+ghost use Rattle.std.specs.Option.{ok_or};
 ghost use Rattle.tokens.specs.Categories.{number_of, category_of};
 
+use crate::unknown::Unknown;
+
 // What a byte of a line does when it is read: its category, with the number that the rules give it.
-#[derive(Clone, Copy)]
+#[derive(Clone, Copy, Debug, PartialEq, Eq)]
 pub enum Category {
     Escape = 0,
     Open = 1,
@@ -22,35 +25,39 @@ pub enum Category {
     Invalid = 15,
 }
 
-impl Category {
-    pub fn number(self) -> u8
-        ensures { result ≡ number_of self }
-    {
-        self as u8
-    }
+impl From<Category> for u8 {
+    ghost from_gives = { λ c n. n ≡ number_of c };
 
-    // The category with a number, none above 15.
-    pub fn from_number(number: u8) -> Option<Category>
-        ensures { result ≡ category_of number }
-    {
+    fn from(category: Category) -> u8 {
+        category as u8
+    }
+}
+
+// The category with a number, none above 15.
+impl TryFrom<u8> for Category {
+    type Error = Unknown;
+
+    ghost try_from_gives = { λ n r. r ≡ ok_or (category_of n) (record { 0 = n }) };
+
+    fn try_from(number: u8) -> Result<Category, Unknown> {
         match number {
-            0 => Some(Category::Escape),
-            1 => Some(Category::Open),
-            2 => Some(Category::Close),
-            3 => Some(Category::Math),
-            4 => Some(Category::Align),
-            5 => Some(Category::EndLine),
-            6 => Some(Category::Parameter),
-            7 => Some(Category::Superscript),
-            8 => Some(Category::Subscript),
-            9 => Some(Category::Ignored),
-            10 => Some(Category::Space),
-            11 => Some(Category::Letter),
-            12 => Some(Category::Other),
-            13 => Some(Category::Active),
-            14 => Some(Category::Comment),
-            15 => Some(Category::Invalid),
-            _ => None,
+            0 => Ok(Category::Escape),
+            1 => Ok(Category::Open),
+            2 => Ok(Category::Close),
+            3 => Ok(Category::Math),
+            4 => Ok(Category::Align),
+            5 => Ok(Category::EndLine),
+            6 => Ok(Category::Parameter),
+            7 => Ok(Category::Superscript),
+            8 => Ok(Category::Subscript),
+            9 => Ok(Category::Ignored),
+            10 => Ok(Category::Space),
+            11 => Ok(Category::Letter),
+            12 => Ok(Category::Other),
+            13 => Ok(Category::Active),
+            14 => Ok(Category::Comment),
+            15 => Ok(Category::Invalid),
+            _ => Err(Unknown(u32::from(number))),
         }
     }
 }

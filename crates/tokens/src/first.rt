@@ -2,6 +2,7 @@ ghost use Rattle.std.specs.Prelude.{◌≡◌};
 ghost use Rattle.tokens.specs.Firsts.{first_category, first_categories};
 
 use crate::category::Category;
+use std::array;
 
 impl Category {
     // The category that a code has at first.
@@ -32,10 +33,6 @@ impl Category {
     pub fn first_table() -> [Category; 256]
         ensures { result ≡ first_categories }
     {
-        let mut table = [Category::Other; 256];
-        for code in 0..256 {
-            table[code] = Category::first(code as u8);
-        }
-        table
+        array::from_fn(|code| Category::first(code as u8))
     }
 }

@@ -8,15 +8,15 @@ mod codec;
 mod fields;
 mod first;
 mod layer;
-mod moves;
 mod stored;
 mod token;
 mod token_category;
+mod unknown;
 
 pub use answer::{Answer, Entry, GroupKind, Scope};
 pub use category::Category;
 pub use layer::Layer;
-pub use moves::Move;
 pub use stored::{BodyWord, ParameterWord};
 pub use token::Token;
 pub use token_category::TokenCategory;
+pub use unknown::Unknown;
