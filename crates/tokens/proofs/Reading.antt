@@ -1,8 +1,6 @@
 -- What reading a word gives.
-use Rattle.std.proofs.Common.{◌≡◌, ℕ, IfSome, IfOk, Some, None, Ok, Option, Result, refl, tt}
+use Rattle.std.proofs.Common.{ℕ, IfSome, IfOk, Some, None, Option, refl}
 use Rattle.std.specs.Option.{ok_or}
-use Rattle.tokens.specs.declared.token.Token.{Token}
-use Rattle.tokens.specs.declared.answer.Answer.{Answer}
 use Rattle.tokens.specs.Words.{token_of, answer_of, ReadsToken, ReadsAnswer}
 use Rattle.tokens.proofs.Tokens.{token_back, token_worded}
 use Rattle.tokens.proofs.Answering.{answer_back, answer_worded}
