@@ -55,10 +55,7 @@ impl Book {
         ensures answer { result ≡ is_innermost kind (book_of self.now).groups }
         ensures inside { result ≡ true → 0 < vec_len self.now.kinds }
     {
-        match self.innermost() {
-            Some(innermost) => innermost.number() == kind.number(),
-            None => false,
-        }
+        self.innermost() == Some(kind)
     }
 
     // Closes the innermost group, if it is of the kind, for names and codes alike.

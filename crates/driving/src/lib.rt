@@ -3,6 +3,8 @@
 
 mod status;
 mod taking;
+mod telling;
 
 pub use status::{Guard, Scan, Status};
 pub use taking::needed;
+pub use telling::{is_blank, is_close, is_open};

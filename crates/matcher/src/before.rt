@@ -4,7 +4,6 @@ ghost use Rattle.matching.specs.Dividing.{parameters_of};
 ghost use Rattle.matching.specs.Matching.{begin, following};
 ghost use Rattle.matcher.specs.Going.{Leads, Fails};
 
-use crate::tests::same;
 use calls::MatcherCause;
 use driving::needed;
 use matching::MatcherRefusal;
@@ -28,7 +27,7 @@ pub(crate) fn text_before<S: Source>(
             return Ok(at);
         };
         let token = needed(source, categories, names)?;
-        if !same(wanted, token) {
+        if wanted != token {
             return Err(MatcherCause::Matcher(MatcherRefusal::Differs, source.place()));
         }
         at += 1;

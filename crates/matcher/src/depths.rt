@@ -2,7 +2,7 @@ ghost use Rattle.std.specs.Prelude.{◌≡◌, ◌<◌, Some};
 ghost use Rattle.matching.specs.Braces.{passed};
 ghost use Rattle.matcher.specs.Hindering.{hindrance};
 
-use crate::tests::{is_close, is_open};
+use driving::{is_close, is_open};
 use matching::MatcherRefusal;
 use tokens::Token;
 

@@ -3,7 +3,7 @@ ghost use Rattle.matching.specs.Braces.{is_balanced};
 ghost use Rattle.matching.specs.Dividing.{is_group};
 
 use crate::depths::passed;
-use crate::tests::{is_close, is_open};
+use driving::{is_close, is_open};
 use tokens::Token;
 
 fn is_balanced(tokens: &[Token]) -> bool

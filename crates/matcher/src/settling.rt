@@ -5,7 +5,7 @@ ghost use Rattle.matcher.specs.Marks.{delimiter_in, begins, Marked, moved};
 
 use crate::depths::passed;
 use crate::mark::Mark;
-use crate::tests::{is_par, same};
+use crate::tests::is_par;
 use tokens::{ParameterWord, Token};
 
 // Whether a token stands at a place of the delimiter that some words begin with.
@@ -16,7 +16,7 @@ fn stands(words: &[ParameterWord], place: usize, token: Token) -> bool
         return false;
     }
     match words[place] {
-        ParameterWord::Token(wanted) => same(token, wanted),
+        ParameterWord::Token(wanted) => token == wanted,
         ParameterWord::Parameter => false,
     }
 }

@@ -2,8 +2,8 @@ ghost use Rattle.std.specs.Prelude.{◌≡◌, ◌≤◌, [], length, if◌then�
 ghost use Rattle.matching.specs.Laws.{has_closing, parameters_in};
 ghost use Rattle.matcher.specs.Words.{may_be};
 
-use crate::tests::is_close;
 use crate::text::{PARAMETERS_LIMIT, ParameterText, WORDS_LIMIT};
+use driving::is_close;
 use tokens::ParameterWord;
 
 // Whether a closing brace is among the words.

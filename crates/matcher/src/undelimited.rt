@@ -7,9 +7,9 @@ ghost use Rattle.matcher.specs.Hindering.{Under};
 
 use crate::depths::{hindrance, passed};
 use crate::terms::Terms;
-use crate::tests::{is_blank, is_close, is_open, is_par};
+use crate::tests::is_par;
 use calls::MatcherCause;
-use driving::needed;
+use driving::{is_blank, is_close, is_open, needed};
 use matching::MatcherRefusal;
 use names::Names;
 use sources::Source;

@@ -53,7 +53,7 @@ impl Held {
         ensures { held_tokens self.new ≡ tokens_in words.now ++ held_tokens self.old }
     {
         for word in words.iter().rev() {
-            if let Some(token) = Token::from_word(*word) {
+            if let Ok(token) = Token::try_from(*word) {
                 self.tokens.push_reserved(token);
             }
         }

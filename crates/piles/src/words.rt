@@ -9,10 +9,10 @@ use tokens::Token;
 fn is_known(word: u32, names: &Names) -> bool
     ensures { result ≡ is_some (known_token (listed names.now) word) }
 {
-    match Token::from_word(word) {
-        Some(Token::Name(number)) => number < names.taken(),
-        Some(Token::Character(_, _)) => true,
-        None => false,
+    match Token::try_from(word) {
+        Ok(Token::Name(number)) => number < names.taken(),
+        Ok(Token::Character(_, _)) => true,
+        Err(_) => false,
     }
 }
 
