@@ -47,14 +47,11 @@ impl<A: Source, B: Source> Source for Join<A, B> {
         names: &mut Names,
     ) -> Result<Option<Token>, PileFault> {
         self.last = Side::First;
-        match self.first.read(categories, names) {
-            Ok(None) => {
-                self.last = Side::Second;
-                self.second.read(categories, names)
-            }
-            Ok(Some(token)) => Ok(Some(token)),
-            Err(fault) => Err(fault),
+        if let Some(token) = self.first.read(categories, names)? {
+            return Ok(Some(token));
         }
+        self.last = Side::Second;
+        self.second.read(categories, names)
     }
 
     fn place(&self) -> Place {
@@ -65,9 +62,6 @@ impl<A: Source, B: Source> Source for Join<A, B> {
     }
 
     fn most() -> Option<u64> {
-        match (A::most(), B::most()) {
-            (Some(first), Some(second)) => first.checked_add(second),
-            _ => None,
-        }
+        A::most()?.checked_add(B::most()?)
     }
 }

@@ -47,9 +47,6 @@ impl<S: Source> Source for PutBack<S> {
     }
 
     fn most() -> Option<u64> {
-        match S::most() {
-            Some(most) => most.checked_add(PUT_BACK_LIMIT as u64),
-            None => None,
-        }
+        S::most()?.checked_add(PUT_BACK_LIMIT as u64)
     }
 }

@@ -13,8 +13,8 @@ loop-word-init c =
     let e : iter_rest (rev_source c.into_iter-word-iterator.result) ≡ c.args.words.now = ap (λ r. iter_rest (rev_source r)) c.into_iter-word-iterator.ensures.into_iter_gives ∙ ap iter_rest c.rev-word-items.ensures.source ∙ c.iter.ensures.rest in
     (tt, tt, ap (λ l. tokens_in l ++ held_tokens c.args.self.now) e, omega (arith, c.requires, v.ok.0, length-reverse (vec_items v), ap length e))
 
-pub loop-word-preserved-in-Some-from_word : goal.loop-word-preserved-in-Some-from_word
-loop-word-preserved-in-Some-from_word c =
+pub loop-word-preserved-in-Ok : goal.loop-word-preserved-in-Ok
+loop-word-preserved-in-Ok c =
     let v = c.loop-word.self.tokens in
     let w = c.push_reserved.new.self in
     let rest = iter_rest (rev_source c.loop-word.word-iterator) in
@@ -23,7 +23,7 @@ loop-word-preserved-in-Some-from_word c =
     let m : vec_len w ≤ vec_len v + 1 = omega (arith, c.push_reserved.ensures.len) in (
       tt,
       tt,
-      word_over rest less c.in-Some.word.now (vec_items v) (vec_items w) (tokens_in c.args.words.now ++ held_tokens c.args.self.now) c.in-Some-from_word.token e c.in-Some-from_word.ensures.value c.push_reserved.ensures.items c.loop-word.invariant.2,
+      word_over rest less c.in-Some.word.now (vec_items v) (vec_items w) (tokens_in c.args.words.now ++ held_tokens c.args.self.now) c.in-Ok.token e (let k = c.in-Ok.ensures.0 in grind arith) c.push_reserved.ensures.items c.loop-word.invariant.2,
       length_over rest less c.in-Some.word.now (vec_len v) (vec_len w) e m c.loop-word.invariant.3,
     )
 
@@ -36,7 +36,7 @@ loop-word-preserved c =
     let m : vec_len v ≤ vec_len v + 1 = omega arith in (
       tt,
       tt,
-      word_skipped rest less c.in-Some.word.now (held_tokens c.loop-word.self) (tokens_in c.args.words.now ++ held_tokens c.args.self.now) e c.in_default.ensures.value c.loop-word.invariant.2,
+      word_skipped rest less c.in-Some.word.now (held_tokens c.loop-word.self) (tokens_in c.args.words.now ++ held_tokens c.args.self.now) e (let k = c.in_default.ensures.0 in grind arith) c.loop-word.invariant.2,
       length_over rest less c.in-Some.word.now (vec_len v) (vec_len v) e m c.loop-word.invariant.3,
     )
 
