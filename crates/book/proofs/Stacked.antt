@@ -1,10 +1,10 @@
 -- Save records in one list, oldest first, with a base for each group: the innermost base first.
-use Rattle.std.proofs.Common.{◌≡◌, ℕ, zero, suc, ◌+◌, ◌-◌, ◌<◌, ◌≤◌, true, false, not, eqb, ltb, leb, List, [], ◌∷◌, ◌++◌, reverse, length, get_or, take, drop, replicate, vec_items, vec_len, sym, refl, ap, ◌∙◌, subst, arith}
-use Rattle.std.proofs.lemmas.List.{reverse-append, length-reverse, take-append-drop, length-take-le, take_all, drop_all, take-append-le, drop-append-le, length-drop, drop_more}
+use Rattle.std.proofs.Common.{◌≡◌, ℕ, zero, suc, ◌<◌, ◌≤◌, true, false, cond, not, eqb, ltb, leb, List, [], ◌∷◌, ◌++◌, reverse, length, get_or, take, drop, replicate, vec_items, vec_len, sym, refl, ap, ◌∙◌, subst, arith}
+use Rattle.std.proofs.lemmas.List.{reverse-append, length-reverse, take-append-drop, length-take-le, take_all, drop_all, take-append-le, drop-append-le, length-drop}
 use Rattle.std.proofs.lemmas.Bool.{and_parts, and_from, leb-true, le-leb, eqb-true, ltb-true, lt-ltb}
 use Rattle.tables.specs.declared.Entry.{Entry}
 use Rattle.tables.specs.declared.Saved.{Saved}
-use Rattle.tables.specs.Table.{Table, recorded, records_in, records, needs_in, restored, undone}
+use Rattle.tables.specs.Table.{Table, recorded, records_in, records, needs_in, restored, undone, put, is_zero}
 use Rattle.book.specs.declared.grouped.Grouped.{Grouped}
 use Rattle.book.specs.Bases.{bounded, groups_of, keys_below}
 use Rattle.book.specs.Tabled.{state_of}
@@ -74,27 +74,29 @@ module _ {V : Type 0} where
   pub keys_take : (n b : ℕ) (ss : List (Saved V)) → keys_below n ss ≡ true → keys_below n (take b ss) ≡ true
   keys_take n b ss h = keys_front n (take b ss) (drop b ss) (rw take-append-drop h)
 
-  pub keys_at : (n i : ℕ) (ss : List (Saved V)) (r : Saved V) → keys_below n ss ≡ true → i < length ss → r ≡ get_or ss i r → r.key < n
-  keys_at n i [] r h l e = absurd (omega arith)
-  keys_at n zero (s ∷ ss) r h l e = rw e (ltb-true s.key n (and_parts (ltb s.key n) (keys_below n ss) h).0)
-  keys_at n (suc i) (s ∷ ss) r h l e = keys_at n i ss r (and_parts (ltb s.key n) (keys_below n ss) h).1 (omega arith) e
+  pub keys_end : (n : ℕ) (ss : List (Saved V)) (r : Saved V) → keys_below n (ss ++ r ∷ []) ≡ true → r.key < n
+  keys_end n [] r h = ltb-true r.key n (and_parts (ltb r.key n) true h).0
+  keys_end n (s ∷ ss) r h = keys_end n ss r (and_parts (ltb s.key n) (keys_below n (ss ++ r ∷ [])) h).1
 
-  -- records undone from the end down: none yet, and one more
-  pub undone_none : (n : ℕ) (ss : List (Saved V)) (t : Table V) → n ≡ length ss → t ≡ undone (reverse (drop n ss)) t
-  undone_none n ss t e = let h : length ss ≤ n = omega arith in rw (drop_all n ss h)
+  keys_back : (n : ℕ) (ss ts : List (Saved V)) → keys_below n (ss ++ ts) ≡ true → keys_below n ts ≡ true
+  keys_back n [] ts h = h
+  keys_back n (s ∷ ss) ts h = keys_back n ss ts (and_parts (ltb s.key n) (keys_below n (ss ++ ts)) h).1
 
-  undone_last : (rs : List (Saved V)) (r : Saved V) (t : Table V) → undone (rs ++ r ∷ []) t ≡ restored r (undone rs t)
-  undone_last [] r t = refl
-  undone_last (s ∷ rs) r t = undone_last rs r (restored s t)
+  pub keys_drop : (n b : ℕ) (ss : List (Saved V)) → keys_below n ss ≡ true → keys_below n (drop b ss) ≡ true
+  keys_drop n b ss h = keys_back n (take b ss) (drop b ss) (rw take-append-drop h)
 
-  pub undone_more : (i : ℕ) (ss : List (Saved V)) (r : Saved V) (t : Table V) → 0 < i → i ≤ length ss → r ≡ get_or ss (i - 1) r
-      → restored r (undone (reverse (drop i ss)) t) ≡ undone (reverse (drop (i - 1) ss)) t
-  undone_more i ss r t h l e =
-      let k : i - 1 < length ss = omega arith in
-      let n : i - 1 + 1 ≡ i = omega arith in
-      let f : drop (i - 1) ss ≡ r ∷ drop i ss = drop_more ss (i - 1) r k ∙ (λ j. sym e j ∷ drop (n j) ss) in
-      sym (undone_last (reverse (drop i ss)) r t)
-      ∙ ap (λ (rs : List (Saved V)). undone rs t) (sym (reverse-append (r ∷ []) (drop i ss)) ∙ ap reverse (sym f))
+  -- records are undone from the end on
+  pub undone_end : (ss : List (Saved V)) (r : Saved V) (t : Table V) → undone (reverse (ss ++ r ∷ [])) t ≡ undone (reverse ss) (restored r t)
+  undone_end ss r t = ap (λ (rs : List (Saved V)). undone rs t) (reverse-append ss (r ∷ []))
+
+  pub undone_none : (ss : List (Saved V)) (t : Table V) → length ss ≡ 0 → t ≡ undone (reverse ss) t
+  undone_none [] t e = refl
+  undone_none (s ∷ ss) t e = absurd (omega arith)
+
+-- a record undone where the present value is not global
+pub restored_over : {V : Type 0} (r : Saved V) (t : Table V) (n : ℕ) → n ≡ (t r.key).level → (n ≡ 0 → ⊥) → put t r.key r.entry ≡ restored r t
+restored_over r t zero e h = absurd (h refl)
+restored_over r t (suc n) e h = ap (λ k. cond (is_zero k) t (put t r.key r.entry)) e
 
 -- the innermost base taken off
 pub bases_popped : (xs ys : List ℕ) (b : ℕ) → xs ≡ ys ++ b ∷ [] → reverse xs ≡ b ∷ reverse ys

@@ -1,6 +1,7 @@
 pub mod Faults
 pub mod Bases
 pub mod Scopes
+pub mod Entried
 pub mod Tabled
 pub mod Primitives
 pub mod Meanings

@@ -4,7 +4,7 @@ ghost use Rattle.book.specs.Faults.{number_of, layer_of};
 use tokens::Layer;
 
 // What the book refuses, with its number.
-#[derive(Clone, Copy)]
+#[derive(Clone, Copy, Debug, PartialEq, Eq)]
 pub enum BookFault {
     WrongGroup = 36,
     DefinitionTooLong = 43,

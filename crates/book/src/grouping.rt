@@ -1,9 +1,11 @@
-ghost use Rattle.std.specs.Prelude.{◌≡◌, ℕ, ◌+◌, ◌-◌, ◌<◌, ◌≤◌, true, List, [], ◌∷◌, reverse, length, take, drop, IfOk, vec_len, vec_capacity, slice_index_or};
-ghost use Rattle.tables.specs.Table.{State, put, restored, undone, opened, closed, tried, records, needs_record, recorded, assign_locally, new as new_table};
+ghost use Rattle.std.specs.Prelude.{◌≡◌, ℕ, ◌+◌, ◌-◌, ◌<◌, ◌≤◌, true, List, reverse, take, drop, IfOk, vec_len, vec_capacity, slice_index_or};
+ghost use Rattle.tables.specs.Table.{State, put, undone, opened, closed, tried, records, needs_record, recorded, assign_locally, new as new_table};
 ghost use Rattle.book.specs.Bases.{keys_below};
 ghost use Rattle.book.specs.Scopes.{operation, record_answer};
-ghost use Rattle.book.specs.Tabled.{table_of, state_of, size, depth};
+ghost use Rattle.book.specs.Entried.{table_of, count};
+ghost use Rattle.book.specs.Tabled.{state_of, size, depth, Becomes, IsAsWide};
 
+use crate::entries::Entries;
 use crate::fault::BookFault;
 use crate::grouped::Grouped;
 use std::alloc::{AllocError, Global};
@@ -16,31 +18,16 @@ pub(crate) const RECORDS: usize = 2048;
 // The most groups that can be open.
 pub(crate) const GROUPS: usize = 250;
 
-// Undoes one record: what its key held before comes back, unless the key's present value is global.
-fn restore<V: Copy>(values: &mut Vec<V>, levels: &mut Vec<u8>, old: Saved<V>)
-    requires paired { vec_len levels.old ≡ vec_len values.old }
-    requires within { old.key < vec_len values.old }
-    ensures table { (d : Entry V) → table_of d values.new.items levels.new.items ≡ restored old (table_of d values.old.items levels.old.items) }
-    ensures sizes { (vec_len values.new ≡ vec_len values.old) × (vec_len levels.new ≡ vec_len levels.old) }
-{
-    let Saved { key, entry } = old;
-    if levels[key] != 0 {
-        values[key] = entry.value;
-        levels[key] = entry.level;
-    }
-}
-
 // Undoes the records from a base on, the newest first, and frees them.
-fn undo<V: Copy>(values: &mut Vec<V>, levels: &mut Vec<u8>, saved: &mut Vec<Saved<V>>, base: usize)
-    requires paired { vec_len levels.old ≡ vec_len values.old }
-    requires keyed { keys_below (vec_len values.old) saved.old.items ≡ true }
+fn undo<V: Copy>(entries: &mut Entries<V>, saved: &mut Vec<Saved<V>>, base: usize)
+    requires keyed { keys_below (count entries.old) saved.old.items ≡ true }
     requires within { base ≤ vec_len saved.old }
-    ensures table { (d : Entry V) → table_of d values.new.items levels.new.items ≡ undone (reverse (drop base saved.old.items)) (table_of d values.old.items levels.old.items) }
+    ensures table { (d : Entry V) → table_of d entries.new ≡ undone (reverse (drop base saved.old.items)) (table_of d entries.old) }
     ensures records { saved.new.items ≡ take base saved.old.items }
-    ensures sizes { (vec_len values.new ≡ vec_len values.old) × (vec_len levels.new ≡ vec_len levels.old) × (vec_capacity saved.new ≡ vec_capacity saved.old) }
+    ensures sizes { (count entries.new ≡ count entries.old) × (vec_capacity saved.new ≡ vec_capacity saved.old) }
 {
-    for at in (base..saved.len()).rev() {
-        restore(values, levels, saved[at]);
+    for old in saved[base..].iter().rev() {
+        entries.restore(*old);
     }
     saved.truncate(base);
 }
@@ -50,14 +37,10 @@ impl<V: Copy> Grouped<V> {
     pub(crate) fn new(heap: Global, values: Vec<V>) -> Result<Grouped<V>, AllocError>
         ensures { IfOk result (λ t. ((d : Entry V) → d.level ≡ 0 → state_of d t ≡ new_table (λ k. slice_index_or values.items k d.value)) × (size t ≡ vec_len values) × (depth t ≡ 0)) }
     {
-        let levels = vec![in heap; 0u8; values.len()]?;
-        let saved = Vec::with_capacity(heap, RECORDS)?;
-        let bases = Vec::with_capacity(heap, GROUPS)?;
         Ok(Grouped {
-            values,
-            levels,
-            saved,
-            bases,
+            entries: Entries::new(heap, values)?,
+            saved: Vec::with_capacity(heap, RECORDS)?,
+            bases: Vec::with_capacity(heap, GROUPS)?,
         })
     }
 
@@ -65,17 +48,16 @@ impl<V: Copy> Grouped<V> {
         requires { key < size self.now }
         ensures { (d : Entry V) → result ≡ ((state_of d self.now).table key).value }
     {
-        self.values[key]
+        self.entries.get(key).value
     }
 
-    // Gives a key a value and a level.
-    fn put(&mut self, key: usize, value: V, level: u8)
+    // Gives a key an entry.
+    fn put(&mut self, key: usize, entry: Entry<V>)
         requires { key < size self.old }
-        ensures state { (d : Entry V) → state_of d self.new ≡ record { table = put (state_of d self.old).table key (record { value = value; level = level }); groups = (state_of d self.old).groups } }
-        ensures sizes { (size self.new ≡ size self.old) × (depth self.new ≡ depth self.old) }
+        ensures state { Becomes self.old self.new (λ s. record { table = put s.table key entry; groups = s.groups }) }
+        ensures sizes { IsAsWide self.old self.new }
     {
-        self.values[key] = value;
-        self.levels[key] = level;
+        self.entries.put(key, entry);
     }
 
     // How many save records are taken.
@@ -92,7 +74,7 @@ impl<V: Copy> Grouped<V> {
         ensures inside { result ≡ true → 0 < depth self.now }
     {
         let depth = self.bases.len();
-        depth > 0 && self.levels[key] as usize != depth
+        depth > 0 && self.entries.get(key).level as usize != depth
     }
 
     // Takes a record of what a key holds, for the innermost group.
@@ -100,13 +82,10 @@ impl<V: Copy> Grouped<V> {
         requires within { key < size self.old }
         requires inside { 0 < depth self.old }
         requires room { vec_len self.old.saved < 2048 }
-        ensures state { (d : Entry V) → state_of d self.new ≡ record { table = (state_of d self.old).table; groups = recorded (record { key = key; entry = (state_of d self.old).table key }) (state_of d self.old).groups } }
-        ensures sizes { (size self.new ≡ size self.old) × (depth self.new ≡ depth self.old) }
+        ensures state { Becomes self.old self.new (λ s. record { table = s.table; groups = recorded (record { key = key; entry = s.table key }) s.groups }) }
+        ensures sizes { IsAsWide self.old self.new }
     {
-        let entry = Entry {
-            value: self.values[key],
-            level: self.levels[key],
-        };
+        let entry = self.entries.get(key);
         self.saved.push_reserved(Saved { key, entry });
     }
 
@@ -114,17 +93,17 @@ impl<V: Copy> Grouped<V> {
     fn assign_locally(&mut self, key: usize, value: V) -> Result<(), BookFault>
         requires { key < size self.old }
         ensures answer { (d : Entry V) → result ≡ record_answer (state_of d self.old) (assign_locally key value) }
-        ensures state { (d : Entry V) → state_of d self.new ≡ tried 2048 (state_of d self.old) (assign_locally key value) }
-        ensures sizes { (size self.new ≡ size self.old) × (depth self.new ≡ depth self.old) }
+        ensures state { Becomes self.old self.new (λ s. tried 2048 s (assign_locally key value)) }
+        ensures sizes { IsAsWide self.old self.new }
     {
-        let depth = self.bases.len() as u8;
+        let level = self.bases.len() as u8;
         if self.needs_record(key) {
             if self.saved.len() >= RECORDS {
                 return Err(BookFault::RecordsFull);
             }
             self.save(key);
         }
-        self.put(key, value, depth);
+        self.put(key, Entry { value, level });
         Ok(())
     }
 
@@ -132,13 +111,13 @@ impl<V: Copy> Grouped<V> {
     pub(crate) fn assign(&mut self, key: usize, value: V, scope: Scope) -> Result<(), BookFault>
         requires { key < size self.old }
         ensures answer { (d : Entry V) → result ≡ record_answer (state_of d self.old) (operation scope key value) }
-        ensures state { (d : Entry V) → state_of d self.new ≡ tried 2048 (state_of d self.old) (operation scope key value) }
-        ensures sizes { (size self.new ≡ size self.old) × (depth self.new ≡ depth self.old) }
+        ensures state { Becomes self.old self.new (λ s. tried 2048 s (operation scope key value)) }
+        ensures sizes { IsAsWide self.old self.new }
     {
         match scope {
             Scope::Local => self.assign_locally(key, value),
             Scope::Global => {
-                self.put(key, value, 0);
+                self.put(key, Entry { value, level: 0 });
                 Ok(())
             }
         }
@@ -147,7 +126,7 @@ impl<V: Copy> Grouped<V> {
     // Opens a group, which has no records yet.
     pub(crate) fn open(&mut self)
         requires { depth self.old < 250 }
-        ensures state { (d : Entry V) → state_of d self.new ≡ opened (state_of d self.old) }
+        ensures state { Becomes self.old self.new opened }
         ensures sizes { (size self.new ≡ size self.old) × (depth self.new ≡ depth self.old + 1) }
     {
         self.bases.push_reserved(self.saved.len());
@@ -155,11 +134,11 @@ impl<V: Copy> Grouped<V> {
 
     // Closes the innermost group, if one is open: undoes its records.
     pub(crate) fn close(&mut self)
-        ensures state { (d : Entry V) → state_of d self.new ≡ closed (state_of d self.old) }
+        ensures state { Becomes self.old self.new closed }
         ensures sizes { (size self.new ≡ size self.old) × (depth self.new ≡ depth self.old - 1) }
     {
         if let Some(base) = self.bases.pop() {
-            undo(&mut self.values, &mut self.levels, &mut self.saved, base);
+            undo(&mut self.entries, &mut self.saved, base);
         }
     }
 }

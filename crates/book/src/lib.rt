@@ -3,6 +3,7 @@
 
 mod calls;
 mod contents;
+mod entries;
 mod fault;
 mod first;
 mod grouped;

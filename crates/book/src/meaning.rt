@@ -1,10 +1,11 @@
 ghost use Rattle.std.specs.Prelude.{◌≡◌};
+ghost use Rattle.std.specs.Option.{ok_or};
 ghost use Rattle.book.specs.Primitives.{primitive_number, primitive_of};
 
-use tokens::{BodyWord, ParameterWord, TokenCategory};
+use tokens::{BodyWord, ParameterWord, TokenCategory, Unknown};
 
 // What a name can mean that no definition made, with the number of the name that means it at first.
-#[derive(Clone, Copy)]
+#[derive(Clone, Copy, Debug, PartialEq, Eq)]
 pub enum Primitive {
     Relax = 256,
     Par = 257,
@@ -25,7 +26,7 @@ pub enum Primitive {
 }
 
 // A meaning that has no words.
-#[derive(Clone, Copy)]
+#[derive(Clone, Copy, Debug, PartialEq, Eq)]
 pub enum Plain {
     Undefined,
     Primitive(Primitive),
@@ -33,14 +34,14 @@ pub enum Plain {
 }
 
 // A part of the words of definitions.
-#[derive(Clone, Copy)]
+#[derive(Clone, Copy, Debug, PartialEq, Eq)]
 pub(crate) struct Span {
     pub(crate) start: u16,
     pub(crate) count: u16,
 }
 
 // A macro, by where its words lie.
-#[derive(Clone, Copy)]
+#[derive(Clone, Copy, Debug, PartialEq, Eq)]
 pub(crate) struct Macro {
     pub(crate) long: bool,
     pub(crate) parameters: Span,
@@ -48,14 +49,14 @@ pub(crate) struct Macro {
 }
 
 // A meaning as the table holds it.
-#[derive(Clone, Copy)]
+#[derive(Clone, Copy, Debug, PartialEq, Eq)]
 pub(crate) enum Held {
     Plain(Plain),
     Macro(Macro),
 }
 
 // A macro with its words.
-#[derive(Clone, Copy)]
+#[derive(Clone, Copy, Debug, PartialEq, Eq)]
 pub struct Definition<'a> {
     pub long: bool,
     pub parameters: &'a [ParameterWord],
@@ -63,7 +64,7 @@ pub struct Definition<'a> {
 }
 
 // What a name means.
-#[derive(Clone, Copy)]
+#[derive(Clone, Copy, Debug, PartialEq, Eq)]
 pub enum Meaning<'a> {
     Undefined,
     Primitive(Primitive),
@@ -71,35 +72,39 @@ pub enum Meaning<'a> {
     Macro(Definition<'a>),
 }
 
-impl Primitive {
-    pub fn number(self) -> u16
-        ensures { result ≡ primitive_number self }
-    {
-        self as u16
-    }
+impl From<Primitive> for u16 {
+    ghost from_gives = { λ p n. n ≡ primitive_number p };
 
-    // The primitive that the name of a number means at first, if it means one.
-    pub fn from_number(number: u16) -> Option<Primitive>
-        ensures { result ≡ primitive_of number }
-    {
+    fn from(primitive: Primitive) -> u16 {
+        primitive as u16
+    }
+}
+
+// The primitive that the name of a number means at first, if it means one.
+impl TryFrom<u16> for Primitive {
+    type Error = Unknown;
+
+    ghost try_from_gives = { λ n r. r ≡ ok_or (primitive_of n) (record { 0 = n }) };
+
+    fn try_from(number: u16) -> Result<Primitive, Unknown> {
         match number {
-            256 => Some(Primitive::Relax),
-            257 => Some(Primitive::Par),
-            258 => Some(Primitive::Def),
-            259 => Some(Primitive::Gdef),
-            260 => Some(Primitive::Let),
-            261 => Some(Primitive::Global),
-            262 => Some(Primitive::Long),
-            263 => Some(Primitive::Catcode),
-            264 => Some(Primitive::BeginGroup),
-            265 => Some(Primitive::EndGroup),
-            266 => Some(Primitive::ExpandAfter),
-            267 => Some(Primitive::Ifx),
-            268 => Some(Primitive::IfTrue),
-            269 => Some(Primitive::IfFalse),
-            270 => Some(Primitive::Else),
-            271 => Some(Primitive::Fi),
-            _ => None,
+            256 => Ok(Primitive::Relax),
+            257 => Ok(Primitive::Par),
+            258 => Ok(Primitive::Def),
+            259 => Ok(Primitive::Gdef),
+            260 => Ok(Primitive::Let),
+            261 => Ok(Primitive::Global),
+            262 => Ok(Primitive::Long),
+            263 => Ok(Primitive::Catcode),
+            264 => Ok(Primitive::BeginGroup),
+            265 => Ok(Primitive::EndGroup),
+            266 => Ok(Primitive::ExpandAfter),
+            267 => Ok(Primitive::Ifx),
+            268 => Ok(Primitive::IfTrue),
+            269 => Ok(Primitive::IfFalse),
+            270 => Ok(Primitive::Else),
+            271 => Ok(Primitive::Fi),
+            _ => Err(Unknown(u32::from(number))),
         }
     }
 }

@@ -28,7 +28,7 @@ impl Book {
         ensures count { length result.now ≡ 256 }
         ensures each { (k : ℕ) (d : Category) → k < 256 → slice_index_or result.now k d ≡ ((book_of self.now).codes.table k).value }
     {
-        self.codes.values.as_slice()
+        self.codes.entries.values.as_slice()
     }
 
     // How many groups are open.
@@ -42,12 +42,7 @@ impl Book {
     pub fn innermost(&self) -> Option<GroupKind>
         ensures { result ≡ innermost (book_of self.now).groups }
     {
-        let count = self.depth();
-        if count == 0 {
-            None
-        } else {
-            Some(self.kinds[count - 1])
-        }
+        self.kinds.last().copied()
     }
 
     // How many save records names have taken.

@@ -1,13 +1,14 @@
-use Rattle.std.proofs.Common.{◌≡◌, ◌≤◌, reverse, drop, vec_items, vec_len}
+use Rattle.std.proofs.Common.{◌≡◌, true, reverse, drop, vec_items}
 use Rattle.tables.specs.declared.Entry.{Entry}
 use Rattle.tables.specs.Table.{undone}
-use Rattle.book.specs.Tabled.{table_of}
+use Rattle.book.specs.Bases.{keys_below}
+use Rattle.book.specs.Entried.{table_of, count}
 use Rattle.book.proofs.grouping.undo.Given as goal
 
-abbrev pub invariant-loop-at : goal.invariant-loop-at
-invariant-loop-at g l =
-    ((d : Entry _) → table_of d (vec_items l.values) (vec_items l.levels)
-    ≡ undone (reverse (drop l.at (vec_items l.saved))) (table_of d (vec_items l.initial.values) (vec_items l.initial.levels)))
-    × (l.base ≤ l.at)
-    × (vec_len l.values ≡ vec_len l.initial.values)
-    × (vec_len l.levels ≡ vec_len l.initial.levels)
+-- what is left to undo, undone, is all undone
+abbrev pub invariant-loop-old : goal.invariant-loop-old
+invariant-loop-old g l =
+    let left = l.old-iterator.iter.rest.now in
+    (keys_below (count l.fn.entries) left ≡ true)
+    × ((d : Entry _) → undone (reverse left) (table_of d l.entries) ≡ undone (reverse (drop l.base (vec_items l.fn.saved))) (table_of d l.fn.entries))
+    × (count l.entries ≡ count l.fn.entries)

@@ -6,7 +6,7 @@ use Rattle.book.proofs.contents.Book.categories.Goals as goal
 
 pub returns : goal.returns
 returns c =
-    let v = c.args.self.now.codes.values in
+    let v = c.args.self.now.codes.entries.values in
     let s = c.args.self.now.sized.1 in
     record {
       count = c.as_slice.ensures.len ∙ s;

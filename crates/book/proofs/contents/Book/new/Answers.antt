@@ -15,7 +15,7 @@ use Rattle.book.specs.Meanings.{within}
 use Rattle.book.specs.Primitives.{primitive_of}
 use Rattle.book.specs.Said.{read}
 use Rattle.book.specs.Tabled.{state_of}
-use Rattle.book.proofs.Filling.{filled_all}
+use Rattle.book.proofs.Filling.{filled_all, filled_length}
 use Rattle.book.proofs.Starting.{no_primitive, no_category_lem}
 use Rattle.book.proofs.contents.Book.new.Goals as goal
 
@@ -31,12 +31,13 @@ invariant_of-result c =
     let f = c.in_ok-first_meanings.ensures in
     let h = c.in_ok-first_categories.ensures in
     let v = c.in_ok-first_meanings.field-0 in
+    let u = c.in_ok-first_categories.field-0 in
     let firsts : (j : ℕ) → get_or (vec_items v) j (Plain Undefined) ≡ first_held j =
-    filled_all first_held 65536 (vec_items v) (Plain Undefined) (sym v.ok.0 ∙ f.0) f.1 (λ j l. ap (λ o. Plain (plain_first o)) (no_primitive j l)) in
+    filled_all first_held 65536 (vec_items v) f (Plain Undefined) (λ j l. ap (λ o. Plain (plain_first o)) (no_primitive j l)) in
     let w = c.in_ok-words.words in
     let p = within (vec_len w.parameters) (vec_len w.bodies) in
     let lying : Holds p (state_of no_meaning c.in_ok-names.names) = subst (Holds p) (sym (n.0 no_meaning refl)) (holds_new p (λ j. get_or (vec_items v) j (Plain Undefined)) (λ j. ap p (firsts j))) in record {
-      sized = (n.1 ∙ f.0, m.1 ∙ h.0);
+      sized = (n.1 ∙ v.ok.0 ∙ filled_length first_held 65536 (vec_items v) f, m.1 ∙ u.ok.0 ∙ filled_length first_category 256 (vec_items u) h);
       level = (n.2 ∙ sym k.len, m.2 ∙ sym k.len);
       room = k.capacity;
       lying = lying;
@@ -54,11 +55,11 @@ returns c =
     let w = c.in_ok-words.words in
     let e = c.in_ok-words.ensures in
     let firsts : (j : ℕ) → get_or (vec_items v) j (Plain Undefined) ≡ first_held j =
-    filled_all first_held 65536 (vec_items v) (Plain Undefined) (sym v.ok.0 ∙ f.0) f.1 (λ j l. ap (λ o. Plain (plain_first o)) (no_primitive j l)) in
+    filled_all first_held 65536 (vec_items v) f (Plain Undefined) (λ j l. ap (λ o. Plain (plain_first o)) (no_primitive j l)) in
     let names : read_by (read w) (state_of no_meaning c.in_ok-names.names) ≡ new first_means =
     ap (read_by (read w)) (n.0 no_meaning refl) ∙ ap (λ (g : ℕ → Held). read_by (read w) (new g)) (fun_ext firsts) in
     let codes : state_of no_category c.in_ok-codes.codes ≡ new first_category =
-    m.0 no_category refl ∙ ap (λ (g : ℕ → Category). new g) (fun_ext (filled_all first_category 256 (vec_items u) Other (sym u.ok.0 ∙ h.0) h.1 no_category_lem)) in
+    m.0 no_category refl ∙ ap (λ (g : ℕ → Category). new g) (fun_ext (filled_all first_category 256 (vec_items u) h Other no_category_lem)) in
     let ps : vec_len w.parameters ≡ 0 = w.parameters.ok.0 ∙ ap length e.0 in
     let bs : vec_len w.bodies ≡ 0 = w.bodies.ok.0 ∙ ap length e.1 in
     λ i. record { names = names i; codes = codes i; groups = reverse (k.items i); words = ps i + bs i }

@@ -1,9 +1,9 @@
-use Rattle.std.proofs.Common.{◌<◌, ◌≤◌, vec_len, sym, refl, ap, ◌∙◌, arith}
+use Rattle.std.proofs.Common.{◌<◌, ◌≤◌, sym, refl, ap, ◌∙◌, arith}
 use Rattle.tables.specs.declared.Entry.{Entry}
 use Rattle.tables.specs.Table.{State, put, records}
 use Rattle.book.specs.declared.fault.BookFault.TheVariants.{RecordsFull}
 use Rattle.book.specs.declared.grouped.Grouped.{Grouped}
-use Rattle.book.specs.Tabled.{state_of}
+use Rattle.book.specs.Tabled.{state_of, size, depth}
 use Rattle.book.proofs.Stacked.{records_of, depth_of}
 use Rattle.book.proofs.Assigning.{local_full, local_saved, local_plain}
 use Rattle.book.proofs.grouped.Grouped.assign_locally.Goals as goal
@@ -23,9 +23,9 @@ returns g c =
     let t = c.args.self.now in
     let k = c.args.key in
     let v = c.args.value in
-    let n = c.len-depth.result in
+    let n = c.len-level.result in
     let after : State _ → State _ = λ u. record { table = put u.table k (record { value = v; level = n }); groups = u.groups } in
-    let e = λ (d : Entry _). c.len-depth.ensures ∙ depth_of d t in
+    let e = λ (d : Entry _). c.len-level.ensures ∙ depth_of d t in
     elim c.if-needs_record.branch [
       | then-needs_record+else-len-ge-RECORDS w ↦
           let taken = λ (d : Entry _).
@@ -36,8 +36,8 @@ returns g c =
             answer = λ d. (taken d).0;
             state = λ d. c.put.ensures.state d ∙ ap (λ (x : Grouped _). after (state_of d x)) w.self-is ∙ ap after (w.save.ensures.state d) ∙ (taken d).1;
             sizes = (
-              c.put.ensures.sizes.0 ∙ ap (λ (x : Grouped _). vec_len x.values) w.self-is ∙ w.save.ensures.sizes.0,
-              c.put.ensures.sizes.1 ∙ ap (λ (x : Grouped _). vec_len x.bases) w.self-is ∙ w.save.ensures.sizes.1,
+              c.put.ensures.sizes.0 ∙ ap (λ (x : Grouped _). size x) w.self-is ∙ w.save.ensures.sizes.0,
+              c.put.ensures.sizes.1 ∙ ap (λ (x : Grouped _). depth x) w.self-is ∙ w.save.ensures.sizes.1,
             );
           }
       | else-needs_record w ↦
@@ -46,8 +46,8 @@ returns g c =
             answer = λ d. (plain d).0;
             state = λ d. c.put.ensures.state d ∙ ap (λ (x : Grouped _). after (state_of d x)) w.self-is ∙ (plain d).1;
             sizes = (
-              c.put.ensures.sizes.0 ∙ ap (λ (x : Grouped _). vec_len x.values) w.self-is,
-              c.put.ensures.sizes.1 ∙ ap (λ (x : Grouped _). vec_len x.bases) w.self-is,
+              c.put.ensures.sizes.0 ∙ ap (λ (x : Grouped _). size x) w.self-is,
+              c.put.ensures.sizes.1 ∙ ap (λ (x : Grouped _). depth x) w.self-is,
             );
           }
     ]

@@ -3,7 +3,7 @@ use Rattle.std.proofs.lemmas.List.{length-take-le}
 use Rattle.tables.specs.declared.Saved.{Saved}
 use Rattle.tables.specs.Table.{closed_in}
 use Rattle.book.specs.Bases.{bounded, keys_below, groups_of}
-use Rattle.book.specs.Tabled.{table_of}
+use Rattle.book.specs.Entried.{table_of, count}
 use Rattle.book.proofs.Stacked.{bounded_head, keys_take, bases_popped}
 use Rattle.book.proofs.grouped.Grouped.close.Goals as goal
 
@@ -15,7 +15,7 @@ pub undo-requires : goal.undo-requires
 undo-requires g c =
     let t = c.args.self.now in
     let e = bases_popped (vec_items t.bases) (vec_items c.pop.new.self) c.in-Some.base c.in-Some.ensures.items in
-    record { paired = t.paired; keyed = t.keyed; within = (based (vec_len t.saved) c.in-Some.base (vec_items t.bases) (vec_items c.pop.new.self) e t.based).0 }
+    record { keyed = t.keyed; within = (based (vec_len t.saved) c.in-Some.base (vec_items t.bases) (vec_items c.pop.new.self) e t.based).0 }
 
 pub invariant_of-self : goal.invariant_of-self
 invariant_of-self g c =
@@ -27,11 +27,10 @@ invariant_of-self g c =
     let l : b ≤ vec_len t.saved = h.0 in
     let k : b ≤ length (vec_items t.saved) = omega (arith, t.saved.ok.0) in
     let n : vec_len c.undo.new.saved ≡ b = c.undo.new.saved.ok.0 ∙ ap length u.records ∙ length-take-le b (vec_items t.saved) k in record {
-      paired = u.sizes.1 ∙ t.paired ∙ sym u.sizes.0;
       keyed = subst (λ (m : ℕ). keys_below m (vec_items c.undo.new.saved) ≡ true) (sym u.sizes.0)
-          (subst (λ (ss : List (Saved _)). keys_below (vec_len t.values) ss ≡ true) (sym u.records) (keys_take (vec_len t.values) b (vec_items t.saved) t.keyed));
+          (subst (λ (ss : List (Saved _)). keys_below (count t.entries) ss ≡ true) (sym u.records) (keys_take (count t.entries) b (vec_items t.saved) t.keyed));
       based = subst (λ (m : ℕ). bounded m (reverse (vec_items c.pop.new.self)) ≡ true) (sym n) h.1;
-      records = (omega (arith, t.records.0), omega (arith, t.records.1, u.sizes.2));
+      records = (omega (arith, t.records.0), omega (arith, t.records.1, u.sizes.1));
       groups = (omega (arith, t.groups.0, c.in-Some.ensures.len), omega (arith, t.groups.1, c.in-Some.ensures.capacity));
     }
 
@@ -45,6 +44,6 @@ returns-in-Some g c =
     record {
       state = λ d.
           (λ i. record { table = u.table d i; groups = groups_of (reverse (vec_items c.pop.new.self)) (u.records i) })
-          ∙ ap (closed_in (table_of d (vec_items t.values) (vec_items t.levels))) (sym f);
+          ∙ ap (closed_in (table_of d t.entries)) (sym f);
       sizes = (u.sizes.0, omega (arith, c.in-Some.ensures.len));
     }

@@ -1,7 +1,8 @@
-use Rattle.std.proofs.Common.{◌≡◌, false, ltb, reverse, vec_items, sym, ◌∙◌, arith}
+use Rattle.std.proofs.Common.{◌≡◌, false, ltb, reverse, vec_items, sym, ap, ◌∙◌, arith}
 use Rattle.std.proofs.lemmas.Bool.{le-ltb, both_ways}
-use Rattle.std.proofs.lemmas.List.{length-reverse, get_or_read_under}
-use Rattle.book.specs.Tabled.{table_of}
+use Rattle.std.proofs.lemmas.List.{length-reverse}
+use Rattle.tables.specs.declared.Entry.{Entry}
+use Rattle.book.specs.Entried.{table_of}
 use Rattle.book.proofs.Stacked.{needs_in_lem, needs_none}
 use Rattle.book.proofs.grouped.Grouped.needs_record.Goals as goal
 
@@ -11,8 +12,8 @@ returns-then-depth-gt0 g c =
     let n = length-reverse (vec_items t.bases) in
     record {
       answer = λ d.
-          let e = get_or_read_under (vec_items t.levels) c.args.key _ c.index.result.now d.level c.index.ensures c.requires (sym t.paired ∙ t.levels.ok.0) in
-          needs_in_lem (reverse (vec_items t.bases)) (vec_items t.saved) (table_of d (vec_items t.values) (vec_items t.levels) c.args.key) _ _ e
+          let e = ap (λ (x : Entry _). x.level) (c.get.ensures d) in
+          needs_in_lem (reverse (vec_items t.bases)) (vec_items t.saved) (table_of d t.entries c.args.key) _ _ e
           (c.len-depth.ensures ∙ t.bases.ok.0 ∙ sym n) c.if-depth-gt0.true;
       inside = λ _. omega (arith, c.if-depth-gt0.true, c.len-depth.ensures);
     }
@@ -24,6 +25,6 @@ returns-else-depth-gt0 g c =
     let b = t.bases.ok.0 in
     let z : ltb 0 c.len-depth.result ≡ false = le-ltb 0 c.len-depth.result c.if-depth-gt0.false in
     record {
-      answer = λ d. z ∙ needs_none (reverse (vec_items t.bases)) (vec_items t.saved) (table_of d (vec_items t.values) (vec_items t.levels) c.args.key) (omega arith);
+      answer = λ d. z ∙ needs_none (reverse (vec_items t.bases)) (vec_items t.saved) (table_of d t.entries c.args.key) (omega arith);
       inside = λ e. absurd (both_ways _ z e);
     }

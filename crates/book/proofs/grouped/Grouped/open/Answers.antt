@@ -1,7 +1,7 @@
 use Rattle.std.proofs.Common.{◌≡◌, ℕ, true, List, [], ◌∷◌, reverse, vec_items, vec_len, sym, refl, ap, ◌∙◌, subst, arith}
 use Rattle.std.proofs.lemmas.List.{reverse-append}
 use Rattle.book.specs.Bases.{bounded, groups_of}
-use Rattle.book.specs.Tabled.{table_of}
+use Rattle.book.specs.Entried.{table_of}
 use Rattle.book.proofs.Stacked.{bounded_cons, groups_opened}
 use Rattle.book.proofs.grouped.Grouped.open.Goals as goal
 
@@ -11,7 +11,6 @@ invariant_of-self g c =
     let p = c.push_reserved.ensures in
     let e = ap reverse p.items ∙ reverse-append (vec_items t.bases) (c.len.result ∷ []) in
     let b = bounded_cons (vec_len t.saved) c.len.result (reverse (vec_items t.bases)) (omega arith) (subst (λ (n : ℕ). bounded n (reverse (vec_items t.bases)) ≡ true) (sym c.len.ensures) t.based) in record {
-      paired = t.paired;
       keyed = t.keyed;
       based = subst (λ (bs : List ℕ). bounded (vec_len t.saved) bs ≡ true) (sym e) b;
       records = t.records;
@@ -25,6 +24,6 @@ returns g c =
     let e = ap reverse p.items ∙ reverse-append (vec_items t.bases) (c.len.result ∷ []) in
     let o = ap (λ bs. groups_of bs (vec_items t.saved)) e ∙ groups_opened (reverse (vec_items t.bases)) (vec_items t.saved) c.len.result (c.len.ensures ∙ t.saved.ok.0) in
     record {
-      state = λ d i. record { table = table_of d (vec_items t.values) (vec_items t.levels); groups = o i };
+      state = λ d i. record { table = table_of d t.entries; groups = o i };
       sizes = (refl, p.len);
     }

@@ -1,8 +1,8 @@
-use Rattle.std.proofs.Common.{◌≡◌, ℕ, ◌<◌, ◌≤◌, true, reverse, length, vec_items, vec_len, sym, refl, ap, ◌∙◌, subst, arith}
-use Rattle.std.proofs.lemmas.List.{length-reverse, get_or_read_under}
+use Rattle.std.proofs.Common.{◌≡◌, ℕ, ◌<◌, ◌≤◌, true, reverse, length, vec_items, vec_len, refl, ap, ◌∙◌, subst, arith}
+use Rattle.std.proofs.lemmas.List.{length-reverse}
 use Rattle.tables.specs.Table.{recorded}
 use Rattle.book.specs.Bases.{bounded, groups_of}
-use Rattle.book.specs.Tabled.{table_of}
+use Rattle.book.specs.Entried.{table_of, count}
 use Rattle.book.proofs.Stacked.{bounded_more, keys_push, groups_pushed}
 use Rattle.book.proofs.grouped.Grouped.save.Goals as goal
 
@@ -14,8 +14,7 @@ invariant_of-self g c =
     let p = c.push_reserved.ensures in
     let z : 0 < length (reverse (vec_items t.bases)) = omega (arith, c.requires.inside) in
     let m : vec_len t.saved ≤ vec_len c.push_reserved.new.self = omega arith in record {
-      paired = t.paired;
-      keyed = rw p.items (keys_push (vec_len t.values) (vec_items t.saved) _ t.keyed c.requires.within);
+      keyed = rw p.items (keys_push (count t.entries) (vec_items t.saved) _ t.keyed c.requires.within);
       based = bounded_more _ _ (reverse (vec_items t.bases)) z m t.based;
       records = (omega (arith, c.requires.room), omega (arith, t.records.1));
       groups = t.groups;
@@ -29,10 +28,8 @@ returns g c =
     let h : bounded (length (vec_items t.saved)) bs ≡ true = subst (λ (n : ℕ). bounded n bs ≡ true) t.saved.ok.0 t.based in
     record {
       state = λ d.
-          let v = get_or_read_under (vec_items t.values) c.args.key _ c.index.result.now d.value c.index.ensures c.requires.within t.values.ok.0 in
-          let l = get_or_read_under (vec_items t.levels) c.args.key _ c.index-2.result.now d.level c.index-2.ensures c.requires.within (sym t.paired ∙ t.levels.ok.0) in
           let e = ap (groups_of bs) p.items ∙ groups_pushed bs (vec_items t.saved) _ h in
-          (λ i. record { table = table_of d (vec_items t.values) (vec_items t.levels); groups = e i })
-          ∙ (λ i. record { table = table_of d (vec_items t.values) (vec_items t.levels); groups = recorded (record { key = c.args.key; entry = record { value = v i; level = l i } }) (groups_of bs (vec_items t.saved)) });
+          (λ i. record { table = table_of d t.entries; groups = e i })
+          ∙ (λ i. record { table = table_of d t.entries; groups = recorded (record { key = c.args.key; entry = c.get-entry.ensures d i }) (groups_of bs (vec_items t.saved)) });
       sizes = (refl, refl);
     }
