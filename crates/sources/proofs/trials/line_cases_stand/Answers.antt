@@ -1,7 +1,7 @@
 use Rattle.std.proofs.Common.{refl}
 use Rattle.sources.specs.Ahead.{ahead_of}
 use Rattle.sources.specs.Trials.{LineCases}
-use Rattle.sources.proofs.trials.line_cases.Goals as goal
+use Rattle.sources.proofs.trials.line_cases_stand.Goals as goal
 
 stand : LineCases
 unfolding ahead_of
@@ -17,5 +17,5 @@ stand = record {
   escape_last = refl;
 }
 
-pub returns : goal.returns
-returns c = stand
+pub returns-clause-cases : goal.returns-clause-cases
+returns-clause-cases c = stand

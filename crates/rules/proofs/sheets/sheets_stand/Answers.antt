@@ -1,10 +1,10 @@
 use Rattle.std.proofs.Common.{refl}
 use Rattle.sources.specs.Ahead.{ahead_of}
-use Rattle.rules.proofs.sheets.sheets.Goals as goal
+use Rattle.rules.proofs.sheets.sheets_stand.Goals as goal
 
-pub returns : goal.returns
+pub returns-clause-sheets : goal.returns-clause-sheets
 unfolding ahead_of
-returns c =
+returns-clause-sheets c =
     record {
       empty_text = refl;
       empty_line = refl;

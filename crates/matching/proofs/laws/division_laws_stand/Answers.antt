@@ -6,7 +6,7 @@ use Rattle.matching.specs.Worked.{WorkedCases}
 use Rattle.matching.proofs.Depths.{same_token_lem, token_same}
 use Rattle.matching.proofs.ParameterTexts.{text_laws}
 use Rattle.matching.proofs.Reasons.{laws}
-use Rattle.matching.proofs.laws.division_laws.Goals as goal
+use Rattle.matching.proofs.laws.division_laws_stand.Goals as goal
 
 worked : WorkedCases
 worked = record {
@@ -40,4 +40,5 @@ returns c = record {
   texts = text_laws;
   tokens = λ t u. (same_token_lem t u, λ e. subst (λ (v : Token). same_token t v ≡ true) e (token_same t));
   cases = worked;
+  count = refl;
 }
