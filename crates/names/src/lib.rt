@@ -1,6 +1,5 @@
 #![tactic(auto)]
 
-mod bucket;
 mod fault;
 mod names;
 mod naming;
