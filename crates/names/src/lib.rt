@@ -4,7 +4,6 @@ mod fault;
 mod names;
 mod naming;
 mod searching;
-mod spelled;
 mod spelling;
 mod table;
 

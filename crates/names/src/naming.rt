@@ -61,10 +61,8 @@ impl Names {
     pub fn spelling(&self, number: u16) -> Option<&[u8]>
         ensures { option_map (λ x. x.now) result ≡ spelling_in (listed self.now) number }
     {
-        if number < FIRST_NUMBER {
-            return None;
-        }
-        self.table.spelling_at((number - FIRST_NUMBER) as usize)
+        let place = number.checked_sub(FIRST_NUMBER)?;
+        self.table.spelling_at(usize::from(place))
     }
 
     // How many numbers are taken, with those of the active characters.

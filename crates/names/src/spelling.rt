@@ -1,7 +1,8 @@
-ghost use Rattle.std.specs.Prelude.{[], ◌∷◌};
+ghost use Rattle.std.specs.Prelude.{◌≡◌, ◌≤◌, [], ◌∷◌, length};
 ghost use Rattle.std.specs.Cmp.Lexicographic.{bytes_decides, nat_list_eq_equiv};
 ghost use Rattle.std.specs.Str.{bytes_eq};
 ghost use Rattle.std.proofs.Common.{ap};
+ghost use Rattle.names.specs.Entries.{spelled};
 
 use arrayvec::ArrayVec;
 use indexmap::Equivalent;
@@ -16,10 +17,21 @@ pub struct Spelling {
     pub(crate) bytes: ArrayVec<u8, SPELLING_LIMIT>,
 }
 
-impl Hash for Spelling {
-    ghost hash_input = { λ s. s.bytes.items ∷ [] };
+impl Spelling {
+    pub(crate) fn of(bytes: &[u8]) -> Spelling
+        requires { length bytes.now ≤ 32 }
+        ensures { spelled result ≡ bytes.now }
+    {
+        Spelling {
+            bytes: ArrayVec::try_from(bytes).unwrap(),
+        }
+    }
+}
 
-    ghost respects_eq = { λ s t h. ap (λ l. l ∷ []) ((bytes_decides s.bytes.items t.bytes.items).0 h) };
+impl Hash for Spelling {
+    ghost hash_input = { λ s. spelled s ∷ [] };
+
+    ghost respects_eq = { λ s t h. ap (λ l. l ∷ []) ((bytes_decides (spelled s) (spelled t)).0 h) };
 
     fn hash<H: Hasher>(&self, state: &mut H) {
         state.write(self.bytes.as_slice());
@@ -41,11 +53,11 @@ impl Hash for Sought<'_> {
 }
 
 impl Equivalent<Spelling> for Sought<'_> {
-    ghost equivalent = { λ s t. bytes_eq s.0.now t.bytes.items };
+    ghost equivalent = { λ s t. bytes_eq s.0.now (spelled t) };
 
-    ghost respects_hash = { λ s t h. ap (λ l. l ∷ []) ((bytes_decides s.0.now t.bytes.items).0 h) };
+    ghost respects_hash = { λ s t h. ap (λ l. l ∷ []) ((bytes_decides s.0.now (spelled t)).0 h) };
 
-    ghost respects_eq = { λ s t u. nat_list_eq_equiv.congr s.0.now t.bytes.items u.bytes.items };
+    ghost respects_eq = { λ s t u. nat_list_eq_equiv.congr s.0.now (spelled t) (spelled u) };
 
     fn equivalent(&self, spelling: &Spelling) -> bool {
         self.0 == spelling.bytes.as_slice()
