@@ -15,6 +15,10 @@ module _ (cs : Categories) where
   letters_run [] = refl
   letters_run (b ∷ bs) = take_while-cons (λ b. is_letter (category cs b)) b bs ∙ ap (λ r. cond (is_letter (category cs b)) (b ∷ r) []) (letters_run bs)
 
-  pub count_escaped : (l : List ℕ) → 0 < count l → take (count l) l ≡ escaped cs l
-  count_escaped [] h = refl
-  count_escaped (b ∷ bs) h = letters_run (b ∷ bs) ∙ elim (is_letter (category cs b)) as (λ v. 0 < cond v (1 + count bs) 0 → cond v (b ∷ letters cs bs) [] ≡ b ∷ cond v (letters cs bs) []) [ true ↦ λ _. refl | false ↦ λ h. absurd (omega arith) ] h
+  some_escaped : (l : List ℕ) → 0 < count l → take (count l) l ≡ escaped cs l
+  some_escaped [] h = refl
+  some_escaped (b ∷ bs) h = letters_run (b ∷ bs) ∙ elim (is_letter (category cs b)) as (λ v. 0 < cond v (1 + count bs) 0 → cond v (b ∷ letters cs bs) [] ≡ b ∷ cond v (letters cs bs) []) [ true ↦ λ _. refl | false ↦ λ h. absurd (omega arith) ] h
+
+  -- so many letters, if there are any, are what an escape takes
+  pub count_escaped : (n : ℕ) (l : List ℕ) → n ≡ count l → (n ≡ 0 → ⊥) → take n l ≡ escaped cs l
+  count_escaped n l e h = rw e (some_escaped l (omega arith))

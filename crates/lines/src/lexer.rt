@@ -18,6 +18,7 @@ fn letter_count(line: &[u8], categories: &[Category; 256]) -> usize
 }
 
 // The part behind an escape that spells its name: a run of letters, else one byte, else none.
+#[tactic(auto, using(crate::proofs::Letters::count_within, crate::proofs::Letters::count_escaped))]
 fn name_part<'a>(rest: &'a [u8], categories: &[Category; 256]) -> &'a [u8]
     ensures { result.now ≡ escaped categories.now rest.now }
 {
