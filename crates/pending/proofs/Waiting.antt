@@ -1,14 +1,15 @@
 -- The tokens that wait at the newest end are the end of the list that holds the tasks.
 use Rattle.std.proofs.Common.{◌≡◌, ℕ, Bool, true, false, ◌+◌, ◌-◌, ◌<◌, ◌≤◌, List, [], ◌∷◌, ◌++◌, map, reverse, length, get_or, take, drop, sym, refl, ap, ◌∙◌, arith, length-append, length-drop, take_all}
-use Rattle.std.proofs.lemmas.List.{append-nil, append_assoc, map-append, reverse-reverse, length_push, at_drop_more, at_drop_all}
+use Rattle.std.proofs.lemmas.List.{append-nil, append_assoc, length-map, map-append, reverse-reverse, length_push, at_drop_more, at_drop_all}
 use Rattle.std.specs.List.{prefix_len}
+use Rattle.std.proofs.Math.Seq.{take-append_seam, drop-append_seam}
 use Rattle.tokens.specs.declared.token.Token.{Token}
 use Rattle.pending.specs.declared.task.Prefix.{Prefix}
 use Rattle.pending.specs.declared.task.Task.{Task}
 use Rattle.pending.specs.declared.task.Task.TheVariants as task
 use Rattle.pending.specs.declared.task.Task.TheVariants.{After}
 use Rattle.pending.specs.Underway.{waiting_of, beyond_waiting}
-use Rattle.pending.proofs.Ends.{length_map, pushed, fronted}
+use Rattle.pending.proofs.Ends.{fronted}
 
 -- the oldest of the waiting tokens comes first
 pub waiting_order : (v w : Token) (p : Prefix) (ts : List Task) → waiting_of (After v ∷ After w ∷ task.Prefix p ∷ ts) ≡ w ∷ v ∷ []
@@ -27,15 +28,6 @@ split (After t ∷ ts) =
     ∙ append_assoc (reverse (beyond_waiting ts)) (map After (waiting_of ts)) (After t ∷ [])
     ∙ ap (λ l. reverse (beyond_waiting ts) ++ l) (sym (map-append After (waiting_of ts) (t ∷ [])))
 split (task.Prefix p ∷ ts) = sym (append-nil (reverse (task.Prefix p ∷ ts)))
-
-module _ {X : Type 0} where
-  take_first : (xs ys : List X) → take (length xs) (xs ++ ys) ≡ xs
-  take_first [] ys = refl
-  take_first (x ∷ xs) ys = ap (λ l. x ∷ l) (take_first xs ys)
-
-  drop_first : (xs ys : List X) → drop (length xs) (xs ++ ys) ≡ ys
-  drop_first [] ys = refl
-  drop_first (x ∷ xs) ys = drop_first xs ys
 
 -- the tokens of tasks, in their order
 abbrev pub tokens_in : List Task → List Token
@@ -57,7 +49,7 @@ module _ (xs : List Task) where
   parted = sym (reverse-reverse xs) ∙ split (reverse xs)
 
   parted_count : length old + length (waiting_of (reverse xs)) ≡ length xs
-  parted_count = sym (ap length parted ∙ length-append old (map After (waiting_of (reverse xs))) ∙ ap (λ n. length old + n) (length_map After (waiting_of (reverse xs))))
+  parted_count = sym (ap length parted ∙ length-append old (map After (waiting_of (reverse xs))) ∙ ap (λ n. length old + n) (length-map (waiting_of (reverse xs)) After))
 
   pub waiting_within : length (waiting_of (reverse xs)) ≤ length xs
   waiting_within = omega (arith, parted_count)
@@ -70,14 +62,14 @@ module _ (xs : List Task) where
   kept_tasks =
       ap (λ n. reverse (take n xs)) old_count
       ∙ ap (λ l. reverse (take (length old) l)) parted
-      ∙ ap reverse (take_first old (map After (waiting_of (reverse xs))))
+      ∙ ap reverse (take-append_seam old (map After (waiting_of (reverse xs))))
       ∙ reverse-reverse (beyond_waiting (reverse xs))
 
   pub waiting_tokens : tokens_in (drop (length xs - length (waiting_of (reverse xs))) xs) ≡ waiting_of (reverse xs)
   waiting_tokens =
       ap (λ n. tokens_in (drop n xs)) old_count
       ∙ ap (λ l. tokens_in (drop (length old) l)) parted
-      ∙ ap tokens_in (drop_first old (map After (waiting_of (reverse xs))))
+      ∙ ap tokens_in (drop-append_seam old (map After (waiting_of (reverse xs))))
       ∙ tokens_after (waiting_of (reverse xs))
 
   -- the same part, as a slice from a place on

@@ -55,7 +55,7 @@ impl<T: Copy + Default, const LIMIT: usize> Stack<T, LIMIT> {
         self.held.last().copied()
     }
 
-    // The newest, lent to be changed.
+    // The newest, lent to be changed. (By its index: the borrow checker shows no write-back through the whole slice.)
     pub fn last_mut(&mut self) -> Option<&mut T>
         ensures* lent { sem 𝓛 (follows_if (stack_row T.row LIMIT.row) T.row self.entry.ghost_name (name_of result) (with_newest self.old) self.old) }
         ensures item { option_map (λ x. x.now) result ≡ front (items_of self.old) }

@@ -1,3 +1,6 @@
+ghost use Rattle.std.specs.Prelude.{◌≡◌, false};
+ghost use Rattle.pending.specs.declared.task.Task.TheVariants as task;
+
 use crate::stack::Stack;
 use tokens::Token;
 
@@ -15,8 +18,10 @@ pub enum Task {
     Prefix(Prefix),
 }
 
-// The prefix that marks nothing.
+// The prefix that marks nothing: it lies in the places of a stack that are not used.
 impl Default for Task {
+    ghost is_default = { λ it. it ≡ task.Prefix (record { global = false; long = false }) };
+
     fn default() -> Task {
         Task::Prefix(Prefix::default())
     }

@@ -1,4 +1,4 @@
-use Rattle.std.proofs.Common.{◌≡◌, ◌+◌, ◌-◌, ◌<◌, ◌≤◌, ◌++◌, length, take, drop, vec_items, vec_len, vec_capacity, length-take-le, sym, refl, ap, ◌∙◌, arith}
+use Rattle.std.proofs.Common.{◌≡◌, ◌-◌, ◌++◌, length, take, drop, vec_items, vec_len, vec_capacity, length-take-le, refl, ap, ◌∙◌, arith}
 use Rattle.pending.specs.Underway.{tasks_of, waiting_of}
 use Rattle.pending.proofs.Waiting.{tokens_in, waiting_within, waiting_part, copy_token, copy_none, copy_done}
 use Rattle.pending.proofs.waits.Tasks.copy_waiting.Goals as goal
@@ -30,15 +30,15 @@ loop-task-preserved c =
     let inv = c.loop-task.invariant in
     elim c.match-task.branch [
       | in-After w ↦ (
-          copy_token _ i copied all _ w.in-After.token (vec_items c.match-task.tokens) h w.in-After.is (ap vec_items w.tokens-is ∙ w.push_reserved.ensures.items) inv.0,
-          omega (arith, inv.1, h, ap vec_len w.tokens-is, w.push_reserved.ensures.len, ap vec_capacity w.tokens-is, w.push_reserved.ensures.capacity),
-          ap vec_capacity w.tokens-is ∙ w.push_reserved.ensures.capacity ∙ inv.2,
-        )
+        copy_token _ i copied all _ w.in-After.token (vec_items c.match-task.tokens) h w.in-After.is (ap vec_items w.tokens-is ∙ w.push_reserved.ensures.items) inv.0,
+        omega (arith, inv.1, h, ap vec_len w.tokens-is, w.push_reserved.ensures.len, ap vec_capacity w.tokens-is, w.push_reserved.ensures.capacity),
+        ap vec_capacity w.tokens-is ∙ w.push_reserved.ensures.capacity ∙ inv.2,
+      )
       | in_default w ↦ (
-          copy_none _ i copied all _ w.in_default.field-0 (vec_items c.match-task.tokens) h w.in_default.is (ap vec_items w.tokens-is) inv.0,
-          omega (arith, inv.1, h, ap vec_len w.tokens-is, ap vec_capacity w.tokens-is),
-          ap vec_capacity w.tokens-is ∙ inv.2,
-        )
+        copy_none _ i copied all _ w.in_default.field-0 (vec_items c.match-task.tokens) h w.in_default.is (ap vec_items w.tokens-is) inv.0,
+        omega (arith, inv.1, h, ap vec_len w.tokens-is, ap vec_capacity w.tokens-is),
+        ap vec_capacity w.tokens-is ∙ inv.2,
+      )
     ]
 
 pub returns-clause-tokens : goal.returns-clause-tokens
