@@ -9,6 +9,6 @@ pub struct Stack<T, const LIMIT: usize> {
     ghost few: { length held.items ≤ LIMIT },
 }
 
-// A stack has no room for what was to come.
+// There is no room for what was to come.
 #[derive(Clone, Copy, Debug, PartialEq, Eq)]
 pub struct Full;
