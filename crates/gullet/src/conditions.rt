@@ -50,7 +50,7 @@ impl<S: Source> Gullet<S> {
         ensures state { (read : List Token) → cleared result (state_of S.Source.ahead self.new) ≡ (at_fi_of (state_of S.Source.ahead self.old) (reader (state_of S.Source.ahead self.old).stands read) (state_of S.Source.ahead self.old).conditionals).state }
         ensures onward { Onward (S.Source.reads (categories_of (state_of S.Source.ahead self.old).book)) self.old.source.below self.new.source.below }
     {
-        if self.conditionals.count() == 0 {
+        if self.conditionals.is_empty() {
             return Err(self.refusal(GulletRefusal::Misplaced));
         }
         self.conclude(Turn::Close)
