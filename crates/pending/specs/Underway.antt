@@ -5,7 +5,7 @@
 --   prefixed         a prefix that is the newest task, with another together
 --   waiting_of       the tokens that wait at the newest end, the oldest of them first
 --   beyond_waiting   the tasks behind these
-use Rattle.std.specs.Prelude.{Bool, true, false, ◌||◌, List, [], ◌∷◌, ◌++◌}
+use Rattle.std.specs.Prelude.{ℕ, Bool, true, false, ◌||◌, List, [], ◌∷◌, ◌++◌}
 use Rattle.tokens.specs.declared.token.Token.{Token}
 use Rattle.pending.specs.declared.task.Prefix.{Prefix}
 use Rattle.pending.specs.declared.task.Task.{Task}
@@ -14,7 +14,7 @@ use Rattle.pending.specs.declared.task.Task.TheVariants.{After}
 use Rattle.pending.specs.declared.stack.Stack.{Stack}
 use Rattle.pending.specs.Stacked.{items_of}
 
-abbrev pub tasks_of : Stack Task 64 → List Task
+abbrev pub tasks_of : {n : ℕ} → Stack Task n → List Task
 tasks_of s = items_of s
 
 abbrev pub joint : Prefix → Prefix → Prefix
