@@ -6,6 +6,7 @@ mod arguments;
 mod before;
 mod calling;
 mod delimited;
+mod delimiter;
 mod depths;
 mod dividing;
 mod groups;
