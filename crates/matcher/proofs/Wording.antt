@@ -1,16 +1,18 @@
 -- Parameter texts, word by word.
-use Rattle.std.proofs.Common.{◌≡◌, ℕ, zero, suc, ◌+◌, ◌-◌, ◌<◌, ◌≤◌, Bool, true, false, cond, List, [], ◌∷◌, length, get_or, take, drop, sym, refl, ap, ◌∙◌, arith}
-use Rattle.std.specs.List.{prefix_len}
+use Rattle.std.proofs.Common.{◌≡◌, ℕ, zero, suc, ◌+◌, ◌-◌, ◌<◌, ◌≤◌, Bool, true, false, cond, ◌||◌, count_by, List, [], ◌∷◌, length, get_or, take, drop, sym, refl, ap, ◌∙◌, arith}
+use Rattle.std.specs.List.{prefix_len, list_any}
 use Rattle.std.proofs.lemmas.List.{length-take-le, length-drop, take_rest}
 use Rattle.std.proofs.lemmas.List.Sums.{prefix_len-le-length}
 use Rattle.tokens.specs.declared.token.Token.{Token}
 use Rattle.tokens.specs.declared.stored.ParameterWord.{ParameterWord}
 use Rattle.tokens.specs.declared.stored.ParameterWord.TheVariants as word
+use Rattle.std.proofs.lemmas.List.Recursion.{is_count_by}
+use Rattle.matching.specs.Braces.{is_close}
 use Rattle.matching.specs.Dividing.{parameters_of}
 use Rattle.matching.specs.Matching.{fewest}
-use Rattle.matching.specs.Laws.{parameters_in}
+use Rattle.matching.specs.Laws.{has_closing, parameters_in}
 use Rattle.matcher.specs.Marks.{delimiter_in}
-use Rattle.matcher.specs.Words.{is_token, is_none}
+use Rattle.matcher.specs.Words.{is_token, is_parameter, is_closing, is_none}
 
 pub fewest_cons : (d : List Token) (ds : List (List Token)) → fewest (d ∷ ds) ≡ cond (is_none d) 1 0 + fewest ds
 fewest_cons [] ds = refl
@@ -24,6 +26,19 @@ fewest_short (word.Parameter ∷ ws) = omega (arith, fewest_cons (parameters_of 
     one : (b : Bool) → cond b 1 0 ≤ 1
     one true = omega arith
     one false = omega arith
+
+-- texts in the library's words
+pub closing_any : (ws : List ParameterWord) → has_closing ws ≡ list_any is_closing ws
+closing_any [] = refl
+closing_any (word.Token t ∷ ws) = ap (λ (b : Bool). is_close t || b) (closing_any ws)
+closing_any (word.Parameter ∷ ws) = closing_any ws
+
+pub parameters_count : (ws : List ParameterWord) → parameters_in ws ≡ count_by is_parameter ws
+parameters_count ws = is_count_by parameters_in is_parameter refl one ws
+  where
+    one : (w : ParameterWord) (us : List ParameterWord) → parameters_in (w ∷ us) ≡ cond (is_parameter w) (1 + parameters_in us) (parameters_in us)
+    one (word.Token t) us = refl
+    one word.Parameter us = refl
 
 -- the tokens at the front of words, and the words behind them
 pub run_long : (ws : List ParameterWord) → prefix_len is_token ws ≡ length (delimiter_in ws)
