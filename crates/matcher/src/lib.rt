@@ -23,4 +23,4 @@ mod words;
 
 pub use arguments::Arguments;
 pub use calling::matched;
-pub use text::ParameterText;
+pub use text::{NoText, ParameterText};

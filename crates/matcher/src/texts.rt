@@ -1,8 +1,8 @@
-ghost use Rattle.std.specs.Prelude.{◌≡◌, [], count_by, if◌then◌else◌};
+ghost use Rattle.std.specs.Prelude.{◌≡◌, true, false, [], count_by, MatchResult, if◌then◌else◌};
 ghost use Rattle.std.specs.List.{list_any};
 ghost use Rattle.matcher.specs.Words.{is_parameter, is_closing, may_be};
 
-use crate::text::{PARAMETERS_LIMIT, ParameterText, WORDS_LIMIT};
+use crate::text::{NoText, PARAMETERS_LIMIT, ParameterText, WORDS_LIMIT};
 use driving::is_close;
 use tokens::ParameterWord;
 
@@ -36,10 +36,19 @@ impl<'a> ParameterText<'a> {
     pub fn of(words: &'a [ParameterWord]) -> ParameterText<'a>
         ensures { result.words.now ≡ (if may_be words.now then words.now else []) }
     {
-        if ParameterText::may_be(words) {
-            ParameterText { words }
-        } else {
-            ParameterText { words: &[] }
+        ParameterText::try_from(words).unwrap_or(ParameterText { words: &[] })
+    }
+}
+
+impl<'a> TryFrom<&'a [ParameterWord]> for ParameterText<'a> {
+    type Error = NoText;
+
+    ghost try_from_gives = { λ words r. MatchResult r (λ text. (may_be words.now ≡ true) × (text.words.now ≡ words.now)) (λ _. may_be words.now ≡ false) };
+
+    fn try_from(words: &'a [ParameterWord]) -> Result<ParameterText<'a>, NoText> {
+        if !ParameterText::may_be(words) {
+            return Err(NoText);
         }
+        Ok(ParameterText { words })
     }
 }
