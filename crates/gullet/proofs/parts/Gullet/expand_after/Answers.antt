@@ -65,7 +65,7 @@ returns g c =
     after_reads s r few ∙ went_on s Normal p (after_one s r) d t (ok_under Normal p d t (e.answer read)) in
     record {
       answer = λ read. ap (λ (y : Stepped). placed p y.answer) (sym (total read));
-      state = λ read. ap (λ (ts : List Task). state (position_of g.S.Source.ahead c.fed.new.names c.fed.new.source) s.book s.conditionals ts) (c.push.ensures.items ∙ joins 64 (After t) s.tasks less)
+      state = λ read. ap (λ (ts : List Task). state (position_of g.S.Source.ahead c.fed.new.names c.fed.new.source) s.book s.conditionals ts) (c.start.ensures.tasks ∙ joins 64 (After t) s.tasks less)
           ∙ ap (λ (z : Position). state z s.book s.conditionals (After t ∷ s.tasks)) (e.stands read)
           ∙ ap (λ (y : Stepped). y.state) (sym (total read));
       onward = e.onward;
