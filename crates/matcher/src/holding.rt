@@ -3,7 +3,7 @@ ghost use Rattle.std.specs.Option.{option_map};
 ghost use Rattle.std.specs.List.{slice_get};
 ghost use Rattle.matcher.specs.Held.{arguments_of};
 
-use crate::arguments::{Arguments, TOKENS_LIMIT};
+use crate::arguments::{Arguments, Gathered, TOKENS_LIMIT};
 use crate::text::PARAMETERS_LIMIT;
 use std::alloc::{AllocError, Global};
 use tokens::Token;
@@ -20,9 +20,11 @@ impl Arguments {
     pub fn new(heap: Global) -> Result<Arguments, AllocError>
         ensures { IfOk result (λ a. arguments_of a ≡ []) }
     {
-        let tokens = Vec::with_capacity(heap, TOKENS_LIMIT)?;
+        let gathered = Gathered {
+            tokens: Vec::with_capacity(heap, TOKENS_LIMIT)?,
+        };
         let spans = Vec::with_capacity(heap, PARAMETERS_LIMIT)?;
-        Ok(Arguments { tokens, spans })
+        Ok(Arguments { gathered, spans })
     }
 
     // How many arguments there are.
@@ -39,14 +41,14 @@ impl Arguments {
         let span = self.spans.get(n)?;
         let from = span.from;
         let to = span.to;
-        Some(part(self.tokens.as_slice(), from, to))
+        Some(part(self.gathered.tokens.as_slice(), from, to))
     }
 
     pub(crate) fn clear(&mut self)
         ensures arguments { arguments_of self.new ≡ [] }
-        ensures empty { (vec_len self.new.tokens ≡ 0) × (vec_len self.new.spans ≡ 0) }
+        ensures empty { (vec_len self.new.gathered.tokens ≡ 0) × (vec_len self.new.spans ≡ 0) }
     {
         self.spans.clear();
-        self.tokens.clear();
+        self.gathered.tokens.clear();
     }
 }

@@ -15,7 +15,7 @@ pub returns-in_err-span : goal.returns-in_err-span
 returns-in_err-span c =
     let a = c.args.self.now in
     let past = c.in_err-span.ensures.lookup.3 in
-    rw c.from_residual.ensures (sym (parts_nth (vec_items a.tokens) (vec_items a.spans) c.args.n ∙ ap (option_map (part_of (vec_items a.tokens))) (slice_get_past (vec_items a.spans) c.args.n (omega (arith, past, a.spans.ok.0, c.deref.ensures.len)))))
+    rw c.from_residual.ensures (sym (parts_nth (vec_items a.gathered.tokens) (vec_items a.spans) c.args.n ∙ ap (option_map (part_of (vec_items a.gathered.tokens))) (slice_get_past (vec_items a.spans) c.args.n (omega (arith, past, a.spans.ok.0, c.deref.ensures.len)))))
 
 pub part-requires : goal.part-requires
 part-requires c =
@@ -23,7 +23,7 @@ part-requires c =
     let s = c.in_ok-span.span.now in
     let f = c.in_ok-span.ensures.lookup in
     let e = found_at (vec_items a.spans) c.deref.result.now c.args.n s c.deref.ensures.value f.3.0 f.1 in
-    let w = within_nth (vec_len a.tokens) (vec_items a.spans) c.args.n s a.within e in
+    let w = within_nth (vec_len a.gathered.tokens) (vec_items a.spans) c.args.n s a.within e in
     (w.0, omega (arith, w.1, c.as_slice.ensures.len))
 
 pub returns : goal.returns
@@ -33,4 +33,4 @@ returns c =
     let f = c.in_ok-span.ensures.lookup in
     let e = found_at (vec_items a.spans) c.deref.result.now c.args.n s c.deref.ensures.value f.3.0 f.1 in
     ap Some (c.part.ensures ∙ ap (λ (ts : List Token). take (s.to - s.from) (drop s.from ts)) c.as_slice.ensures.value)
-    ∙ sym (parts_nth (vec_items a.tokens) (vec_items a.spans) c.args.n ∙ ap (option_map (part_of (vec_items a.tokens))) e)
+    ∙ sym (parts_nth (vec_items a.gathered.tokens) (vec_items a.spans) c.args.n ∙ ap (option_map (part_of (vec_items a.gathered.tokens))) e)
