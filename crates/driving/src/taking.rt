@@ -1,4 +1,3 @@
-ghost use Rattle.lines.specs.Line.{Categories};
 ghost use Rattle.names.specs.Spelled.{listed};
 ghost use Rattle.driving.specs.Streams.{stream, Takes};
 

@@ -1,4 +1,4 @@
-ghost use Rattle.std.specs.Prelude.{◌≡◌, ◌-◌, ◌≤◌, [], length, take, drop, IfOk, vec_len};
+ghost use Rattle.std.specs.Prelude.{◌≡◌, [], length, IfOk, vec_len};
 ghost use Rattle.std.specs.Option.{option_map};
 ghost use Rattle.std.specs.List.{slice_get};
 ghost use Rattle.matcher.specs.Held.{arguments_of};
@@ -7,13 +7,6 @@ use crate::arguments::{Arguments, Gathered, TOKENS_LIMIT};
 use crate::text::PARAMETERS_LIMIT;
 use std::alloc::{AllocError, Global};
 use tokens::Token;
-
-fn part(tokens: &[Token], from: usize, to: usize) -> &[Token]
-    requires { (from ≤ to) × (to ≤ length tokens.now) }
-    ensures { result.now ≡ take (to - from) (drop from tokens.now) }
-{
-    &tokens[from..to]
-}
 
 impl Arguments {
     // No arguments, and memory for those of any call.
@@ -39,9 +32,7 @@ impl Arguments {
         ensures { option_map (λ x. x.now) result ≡ slice_get (arguments_of self.now) n }
     {
         let span = self.spans.get(n)?;
-        let from = span.from;
-        let to = span.to;
-        Some(part(self.gathered.tokens.as_slice(), from, to))
+        self.gathered.tokens.as_slice().get(span.from..span.to)
     }
 
     pub(crate) fn clear(&mut self)

@@ -1,4 +1,4 @@
-ghost use Rattle.std.specs.Prelude.{◌≡◌, ◌+◌, ◌-◌, ◌≤◌, Bool, false, [], take, drop, IfOk, if◌then◌else◌, vec_len, MatchResult, OnOk};
+ghost use Rattle.std.specs.Prelude.{◌≡◌, ◌+◌, ◌-◌, ◌≤◌, Bool, false, [], drop, IfOk, if◌then◌else◌, vec_len, MatchResult, OnOk};
 ghost use Rattle.names.specs.Spelled.{listed};
 ghost use Rattle.matching.specs.Braces.{is_open, is_blank};
 ghost use Rattle.matching.specs.Matching.{on, Progress, skipping, in_group, ended, feed};
