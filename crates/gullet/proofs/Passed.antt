@@ -1,5 +1,5 @@
 -- Rules fed by a gullet, and what comes of conditionals.
-use Rattle.std.proofs.Common.{◌≡◌, ℕ, ◌<◌, Bool, true, false, leb, List, [], ◌∷◌, length, Ok, Err, Result, refl, ap, ◌∙◌, subst, arith}
+use Rattle.std.proofs.Common.{◌≡◌, ℕ, ◌<◌, Bool, true, false, leb, List, [], ◌∷◌, length, Ok, Err, Result, MatchResult, refl, ap, ◌∙◌, subst, arith}
 use Rattle.std.proofs.lemmas.Bool.{lt-ltb}
 use Rattle.tokens.specs.declared.token.Token.{Token}
 use Rattle.tokens.specs.declared.answer.Answer.{Answer}
@@ -37,28 +37,32 @@ use Rattle.gullet.specs.Turns.{turned}
 module _ {O B : Type 0} (st : Status) (p : Place) where
   pub ok_under : (d : Driven O B) (o : O) → Ok o ≡ answer_of p d → Ok o ≡ under st p d
   ok_under (came k b) o e = let h : o ≡ k = cc in ap Ok h
-  ok_under (ended b) o e = let z : ◌≡◌ {A = ℕ} 0 1 = cc in absurd (omega arith)
-  ok_under (failed k b) o e = let z : ◌≡◌ {A = ℕ} 0 1 = cc in absurd (omega arith)
+  ok_under (ended b) o e = cc
+  ok_under (failed k b) o e = cc
 
   pub err_under : (d : Driven O B) (f : PileFault) → Err f ≡ answer_of p d → Err (record { cause = Pile f; status = st }) ≡ under st p d
-  err_under (came k b) f e = let z : ◌≡◌ {A = ℕ} 0 1 = cc in absurd (omega arith)
+  err_under (came k b) f e = cc
   err_under (ended b) f e = let h : f ≡ piles.Pile Ended p = cc in ap (λ (x : PileFault). Err (record { cause = Pile x; status = st })) h
   err_under (failed k b) f e = let h : f ≡ piles.Line (record { refusal = k; place = p }) = cc in ap (λ (x : PileFault). Err (record { cause = Pile x; status = st })) h
+
+  pub under_from : (d : Driven O B) (x : Result O PileFault) (y : Result O GulletFault) → MatchResult x (λ o. y ≡ Ok o) (λ f. y ≡ Err (record { cause = Pile f; status = st })) → x ≡ answer_of p d → y ≡ under st p d
+  under_from d (Ok o) y h e = h ∙ ok_under d o e
+  under_from d (Err f) y h e = h ∙ err_under d f e
 
 -- what the rules make of it
 module _ {O : Type 0} (s : State) (st : Status) (p : Place) (end : O → Reader → Stepped) where
   pub went_on : (d : Driven O Reader) (o : O) → Ok o ≡ under st p d → finished s st d end ≡ end o (stands_at d)
   went_on (came k b) o e = let h : k ≡ o = cc in ap (λ (x : O). end x b) h
-  went_on (ended b) o e = let z : ◌≡◌ {A = ℕ} 0 1 = cc in absurd (omega arith)
-  went_on (failed k b) o e = let z : ◌≡◌ {A = ℕ} 0 1 = cc in absurd (omega arith)
+  went_on (ended b) o e = cc
+  went_on (failed k b) o e = cc
 
   pub broke_answer : (d : Driven O Reader) (f : GulletFault) → Err f ≡ under st p d → Err f ≡ placed p (finished s st d end).answer
-  broke_answer (came k b) f e = let z : ◌≡◌ {A = ℕ} 0 1 = cc in absurd (omega arith)
+  broke_answer (came k b) f e = cc
   broke_answer (ended b) f e = let h : f ≡ record { cause = Pile (piles.Pile Ended p); status = st } = cc in ap Err h
   broke_answer (failed k b) f e = let h : f ≡ record { cause = Pile (piles.Line (record { refusal = k; place = p })); status = st } = cc in ap Err h
 
   pub broke_state : (d : Driven O Reader) (f : GulletFault) → Err f ≡ under st p d → state (stands_at d).stands s.book s.conditionals [] ≡ (finished s st d end).state
-  broke_state (came k b) f e = let z : ◌≡◌ {A = ℕ} 0 1 = cc in absurd (omega arith)
+  broke_state (came k b) f e = cc
   broke_state (ended b) f e = refl
   broke_state (failed k b) f e = refl
 
@@ -91,13 +95,13 @@ module _ (s : State) (r : Reader) where
   -- an \else
   pub else_refused : (cs : List Part) → is_first (front cs) ≡ false → at_else_of s r cs ≡ refuse s r Normal (gullet Misplaced)
   else_refused [] e = refl
-  else_refused (First ∷ cs) e = let z : ◌≡◌ {A = ℕ} 0 1 = cc in absurd (omega arith)
+  else_refused (First ∷ cs) e = cc
   else_refused (Second ∷ cs) e = refl
 
   pub else_skips : (cs : List Part) → is_first (front cs) ≡ true → at_else_of s r cs ≡ finished s Skipping (skipping s r OnlyFi) (λ o q. completed s q (behind cs) [])
-  else_skips [] e = let z : ◌≡◌ {A = ℕ} 0 1 = cc in absurd (omega arith)
+  else_skips [] e = cc
   else_skips (First ∷ cs) e = refl
-  else_skips (Second ∷ cs) e = let z : ◌≡◌ {A = ℕ} 0 1 = cc in absurd (omega arith)
+  else_skips (Second ∷ cs) e = cc
 
 -- one more conditional finds room
 pub joins : {X : Type 0} (n : ℕ) (x : X) (xs : List X) → length xs < n → joining n x xs ≡ x ∷ xs
@@ -127,9 +131,12 @@ pub decided_false : (s : State) (b : Bool) (r : Reader) → b ≡ false → deci
 decided_false s b r e = rw e
 
 -- and elsewhere, in the same way
+pub skipped_elsewhere : (s : State) (q r : Reader) (o : Found) → skipped_to (at s q) o r ≡ skipped_to s o r
+skipped_elsewhere s q r found.Else = elsewhere s q r (Second ∷ s.conditionals) []
+skipped_elsewhere s q r found.Fi = elsewhere s q r s.conditionals []
+
 finished_elsewhere : (s : State) (q : Reader) (d : Driven Found Reader) → finished (at s q) Skipping d (skipped_to (at s q)) ≡ finished s Skipping d (skipped_to s)
-finished_elsewhere s q (came found.Else r) = elsewhere s q r (Second ∷ s.conditionals) []
-finished_elsewhere s q (came found.Fi r) = elsewhere s q r s.conditionals []
+finished_elsewhere s q (came o r) = skipped_elsewhere s q r o
 finished_elsewhere s q (ended r) = refl
 finished_elsewhere s q (failed e r) = refl
 

@@ -5,8 +5,8 @@
 --   moved        a move of the code by one token, as the rules say it
 --   defined_of   an answer
 use Rattle.std.specs.Prelude.{ℕ, List, Ok, Err, vec_items, Result}
-use Rattle.tokens.specs.declared.moves.Move as code
-use Rattle.tokens.specs.declared.moves.Move.TheVariants.{On, Out}
+use Rattle.std.specs.declared.ops.ControlFlow.{ControlFlow}
+use Rattle.std.specs.declared.ops.ControlFlow.TheVariants.{Continue, Break}
 use Rattle.matching.specs.Matching.{Move, on, out}
 use Rattle.tokens.specs.declared.stored.ParameterWord.{ParameterWord}
 use Rattle.tokens.specs.declared.stored.BodyWord.{BodyWord}
@@ -34,9 +34,9 @@ end_of Defined d = defines (vec_items d.parameters) (vec_items d.body)
 end_of Broken d = broken
 end_of TooLong d = too_long
 
-abbrev pub moved : code.Move Spot DefinitionEnd → Draft → Move Definition model.Defined
-moved (On s) d = on (view s d)
-moved (Out e) d = out (end_of e d)
+abbrev pub moved : ControlFlow DefinitionEnd Spot → Draft → Move Definition model.Defined
+moved (Continue s) d = on (view s d)
+moved (Break e) d = out (end_of e d)
 
 abbrev pub defined_of : Result DefinitionEnd PileFault → Draft → Result model.Defined PileFault
 defined_of (Ok e) d = Ok (end_of e d)

@@ -18,7 +18,8 @@ use driving::needed;
 use names::Names;
 use piles::PutBack;
 use sources::{PileFault, Source};
-use tokens::{Category, Move};
+use std::ops::ControlFlow;
+use tokens::Category;
 
 // Reads a definition behind its name from any source, and keeps its words in the draft.
 fn drafted<S: Source>(
@@ -42,8 +43,8 @@ fn drafted<S: Source>(
     'tokens: loop {
         let token = needed(source, categories, names)?;
         match draft.feed(book, spot, token) {
-            Move::On(next) => spot = next,
-            Move::Out(end) => return Ok(end),
+            ControlFlow::Continue(next) => spot = next,
+            ControlFlow::Break(end) => return Ok(end),
         }
     }
 }

@@ -7,21 +7,23 @@ ghost use Rattle.rules.specs.Tokens.{Meanings};
 ghost use Rattle.gullet.specs.Drafts.{view, moved};
 
 use crate::draft::{DefinitionEnd, Draft, Spot, Stage, WORDS_LIMIT};
-use crate::telling::{digit_of, is_close, is_digit, is_hash, is_open};
+use crate::telling::{digit_of, is_digit, is_hash};
 use book::Book;
-use tokens::{BodyWord, Move, ParameterWord, Token};
+use driving::{is_close, is_open};
+use std::ops::ControlFlow;
+use tokens::{BodyWord, ParameterWord, Token};
 
 impl Draft {
     // One word more in the parameter text, which then has so many parameters.
-    fn more_text(&mut self, word: ParameterWord, count: u8) -> Move<Spot, DefinitionEnd>
+    fn more_text(&mut self, word: ParameterWord, count: u8) -> ControlFlow<DefinitionEnd, Spot>
         ensures moves { moved result self.new ≡ room (length self.old.parameters.items) (in_text (self.old.parameters.items ++ word ∷ []) count) }
         ensures within { Within (λ s. s.depth) (vec_len self.new.body) (meant result) }
     {
         if self.parameters.len() >= WORDS_LIMIT {
-            return Move::Out(DefinitionEnd::TooLong);
+            return ControlFlow::Break(DefinitionEnd::TooLong);
         }
         self.parameters.push_reserved(word);
-        Move::On(Spot {
+        ControlFlow::Continue(Spot {
             stage: Stage::InText,
             count,
             depth: 0,
@@ -29,39 +31,39 @@ impl Draft {
     }
 
     // One word more in the body, behind which braces are so deep.
-    fn more_body(&mut self, word: BodyWord, count: u8, depth: u64) -> Move<Spot, DefinitionEnd>
+    fn more_body(&mut self, word: BodyWord, count: u8, depth: u64) -> ControlFlow<DefinitionEnd, Spot>
         requires { depth ≤ vec_len self.old.body + 1 }
         ensures moves { moved result self.new ≡ one_more self.old.parameters.items count self.old.body.items word depth }
         ensures within { Within (λ s. s.depth) (vec_len self.new.body) (meant result) }
     {
         if self.parameters.len() >= WORDS_LIMIT - self.body.len() {
-            return Move::Out(DefinitionEnd::TooLong);
+            return ControlFlow::Break(DefinitionEnd::TooLong);
         }
         self.body.push_reserved(word);
-        Move::On(Spot {
+        ControlFlow::Continue(Spot {
             stage: Stage::InBody,
             count,
             depth,
         })
     }
 
-    fn in_text(&mut self, book: &Book, count: u8, token: Token) -> Move<Spot, DefinitionEnd>
+    fn in_text(&mut self, book: &Book, count: u8, token: Token) -> ControlFlow<DefinitionEnd, Spot>
         ensures moves { moved result self.new ≡ definition_feed (meanings_of (book_of book.now)) (in_text self.old.parameters.items count) token }
         ensures within { Within (λ s. s.depth) (vec_len self.new.body) (meant result) }
     {
         if is_open(token) {
             self.body.clear();
-            return Move::On(Spot {
+            return ControlFlow::Continue(Spot {
                 stage: Stage::InBody,
                 count,
                 depth: 0,
             });
         }
         if is_close(token) {
-            return Move::Out(DefinitionEnd::Broken);
+            return ControlFlow::Break(DefinitionEnd::Broken);
         }
         if is_hash(book, token) {
-            return Move::On(Spot {
+            return ControlFlow::Continue(Spot {
                 stage: Stage::HashInText,
                 count,
                 depth: 0,
@@ -70,14 +72,14 @@ impl Draft {
         self.more_text(ParameterWord::Token(token), count)
     }
 
-    fn hash_in_text(&mut self, count: u8, token: Token) -> Move<Spot, DefinitionEnd>
+    fn hash_in_text(&mut self, count: u8, token: Token) -> ControlFlow<DefinitionEnd, Spot>
         ensures moves { (f : Meanings) → moved result self.new ≡ definition_feed f (hash_in_text self.old.parameters.items count) token }
         ensures within { Within (λ s. s.depth) (vec_len self.new.body) (meant result) }
     {
         if count < 9 && is_digit(count + 1, token) {
             self.more_text(ParameterWord::Parameter, count + 1)
         } else {
-            Move::Out(DefinitionEnd::Broken)
+            ControlFlow::Break(DefinitionEnd::Broken)
         }
     }
 
@@ -87,7 +89,7 @@ impl Draft {
         count: u8,
         depth: u64,
         token: Token,
-    ) -> Move<Spot, DefinitionEnd>
+    ) -> ControlFlow<DefinitionEnd, Spot>
         requires { depth ≤ vec_len self.old.body }
         ensures moves { moved result self.new ≡ definition_feed (meanings_of (book_of book.now)) (in_body self.old.parameters.items count self.old.body.items depth) token }
         ensures within { Within (λ s. s.depth) (vec_len self.new.body) (meant result) }
@@ -98,12 +100,12 @@ impl Draft {
         }
         if is_close(token) {
             if depth == 0 {
-                return Move::Out(DefinitionEnd::Defined);
+                return ControlFlow::Break(DefinitionEnd::Defined);
             }
             return self.more_body(word, count, depth - 1);
         }
         if is_hash(book, token) {
-            return Move::On(Spot {
+            return ControlFlow::Continue(Spot {
                 stage: Stage::HashInBody,
                 count,
                 depth,
@@ -118,7 +120,7 @@ impl Draft {
         count: u8,
         depth: u64,
         token: Token,
-    ) -> Move<Spot, DefinitionEnd>
+    ) -> ControlFlow<DefinitionEnd, Spot>
         requires { depth ≤ vec_len self.old.body }
         ensures moves { moved result self.new ≡ definition_feed (meanings_of (book_of book.now)) (hash_in_body self.old.parameters.items count self.old.body.items depth) token }
         ensures within { Within (λ s. s.depth) (vec_len self.new.body) (meant result) }
@@ -131,10 +133,10 @@ impl Draft {
                 if 1 <= digit && digit <= count {
                     self.more_body(BodyWord::Reference(digit), count, depth)
                 } else {
-                    Move::Out(DefinitionEnd::Broken)
+                    ControlFlow::Break(DefinitionEnd::Broken)
                 }
             }
-            None => Move::Out(DefinitionEnd::Broken),
+            None => ControlFlow::Break(DefinitionEnd::Broken),
         }
     }
 
@@ -144,7 +146,7 @@ impl Draft {
         book: &Book,
         spot: Spot,
         token: Token,
-    ) -> Move<Spot, DefinitionEnd>
+    ) -> ControlFlow<DefinitionEnd, Spot>
         requires { spot.depth ≤ vec_len self.old.body }
         ensures moves { moved result self.new ≡ definition_feed (meanings_of (book_of book.now)) (view spot self.old) token }
         ensures within { Within (λ s. s.depth) (vec_len self.new.body) (meant result) }

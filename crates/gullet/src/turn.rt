@@ -5,7 +5,7 @@ ghost use Rattle.gullet.specs.Turns.{turned};
 use pending::Conditionals;
 
 // What becomes of the open conditionals when an expansion is complete.
-#[derive(Clone, Copy)]
+#[derive(Clone, Copy, Debug, PartialEq, Eq)]
 pub(crate) enum Turn {
     Keep,
     Close,

@@ -61,15 +61,15 @@ tokens-preserved g c =
     let at = view c.tokens.spot c.tokens.draft in
     let t = c.in_ok-token.token in
     let e = c.in_ok-token.ensures in
-    let m = on (view c.in-On.next c.feed.new.self) in
-    let f = c.in-On.ensures in (
+    let m = on (view c.in-Continue.next c.feed.new.self) in
+    let f = c.in-Continue.ensures in (
       sym (drive_token reads feed at s more t b m e.takes f.moves here) ∙ c.tokens.invariant.0,
       λ y r. c.tokens.invariant.1 y (reached_token reads feed at s more t b m e.takes f.moves ns c.tokens.source c.needed.new.source y e.reads r),
       f.within,
     )
 
-pub returns-in-Out : goal.returns-in-Out
-returns-in-Out g c =
+pub returns-in-Break : goal.returns-in-Break
+returns-in-Break g c =
     let cs = c.args.categories.now in
     let ns = listed c.tokens.names in
     let ms = listed c.needed.new.names in
@@ -84,8 +84,8 @@ returns-in-Out g c =
     let at = view c.tokens.spot c.tokens.draft in
     let t = c.in_ok-token.token in
     let e = c.in_ok-token.ensures in
-    let m = out (end_of c.in-Out.end c.feed.new.self) in
-    let f = c.in-Out.ensures.moves in
+    let m = out (end_of c.in-Break.end c.feed.new.self) in
+    let f = c.in-Break.ensures.moves in
     let d = sym (drive_token reads feed at s more t b m e.takes f here) ∙ c.tokens.invariant.0 in
     record {
       answer = ap (answer_of place) d;

@@ -1,32 +1,25 @@
-use Rattle.std.proofs.Common.{◌≡◌, ◌<◌, length, Err, sym, refl, ap, ◌∙◌, arith}
+use Rattle.std.proofs.Common.{◌<◌, [], length, sym, refl, arith}
+use Rattle.rules.specs.Expanding.{at_fi_of}
 use Rattle.rules.specs.Readers.{reader}
-use Rattle.rules.specs.States.{Stepped}
-use Rattle.gullet.specs.Faults.{placed}
+use Rattle.rules.specs.States.{completed}
+use Rattle.pending.specs.Fronts.{behind}
 use Rattle.gullet.specs.Fed.{stays}
 use Rattle.gullet.specs.States.{state_of}
-use Rattle.gullet.proofs.Passed.{fi_refused, fi_closes}
+use Rattle.gullet.proofs.Doing.{does_as}
+use Rattle.gullet.proofs.Passed.{fi_closes}
 use Rattle.gullet.proofs.parts.Gullet.end_conditional.Goals as goal
 
-pub returns-then-count-eq0 : goal.returns-then-count-eq0
-returns-then-count-eq0 g c =
-    let s = state_of g.S.Source.ahead c.args.self.now in
-    let p = g.S.Source.place c.args.self.now.source.below in
-    let n : length s.conditionals ≡ 0 = sym c.count.ensures ∙ c.if-count-eq0.true in
-    record {
-      answer = λ read. ap Err c.refusal.ensures ∙ ap (λ (y : Stepped). placed p y.answer) (sym (fi_refused s (reader s.stands read) s.conditionals n));
-      state = λ read. ap (λ (y : Stepped). y.state) (sym (fi_refused s (reader s.stands read) s.conditionals n));
-      onward = stays refl;
-    }
+pub returns-then-count-eq0-clause-onward : goal.returns-then-count-eq0-clause-onward
+returns-then-count-eq0-clause-onward g c =
+    stays refl
 
-pub returns : goal.returns
-returns g c =
+pub returns-clause-does : goal.returns-clause-does
+returns-clause-does g c =
     let s = state_of g.S.Source.ahead c.args.self.now in
-    let p = g.S.Source.place c.conclude.new.self.source.below in
     let k = c.count.ensures in
-    let n : 0 < length s.conditionals = omega (arith, c.if-count-eq0.false) in
-    let e = c.conclude.ensures in
-    record {
-      answer = λ read. e.answer read ∙ ap (λ (y : Stepped). placed p y.answer) (sym (fi_closes s (reader s.stands read) s.conditionals n));
-      state = λ read. e.state read ∙ ap (λ (y : Stepped). y.state) (sym (fi_closes s (reader s.stands read) s.conditionals n));
-      onward = stays e.below;
-    }
+    let open_one : 0 < length s.conditionals = omega (arith, c.if-count-eq0.false) in
+    does_as (λ z r. completed z r (behind z.conditionals) []) (λ z r. at_fi_of z r z.conditionals) (λ read. sym (fi_closes s (reader s.stands read) s.conditionals open_one)) c.conclude.ensures.does
+
+pub returns-clause-onward : goal.returns-clause-onward
+returns-clause-onward g c =
+    stays c.conclude.ensures.below
