@@ -1,5 +1,5 @@
 -- An expansion completed, by what came of putting back.
-use Rattle.std.proofs.Common.{◌≡◌, ℕ, ◌+◌, ◌≤◌, Bool, true, cond, leb, List, [], ◌++◌, length, Ok, Err, vec_items, refl, ap, ◌∙◌, arith}
+use Rattle.std.proofs.Common.{◌≡◌, ℕ, ◌+◌, ◌≤◌, Bool, true, cond, leb, List, [], ◌++◌, length, Ok, Err, refl, ap, ◌∙◌, arith}
 use Rattle.std.proofs.lemmas.Bool.{le-leb}
 use Rattle.tokens.specs.declared.token.Token.{Token}
 use Rattle.tokens.specs.declared.answer.Answer.{Answer}
@@ -9,7 +9,8 @@ use Rattle.sources.specs.declared.fault.PileFault.{PileFault}
 use Rattle.sources.specs.declared.fault.PileFault.TheVariants as piles
 use Rattle.driving.specs.declared.status.Status.TheVariants.{Normal}
 use Rattle.pending.specs.declared.conditional.Part.{Part}
-use Rattle.pending.specs.declared.tasks.Tasks.{Tasks}
+use Rattle.pending.specs.declared.stack.Stack.{Stack}
+use Rattle.pending.specs.declared.task.Task.{Task}
 use Rattle.pending.specs.Underway.{tasks_of, waiting_of, beyond_waiting}
 use Rattle.pending.proofs.Waiting.{waiting_within}
 use Rattle.piles.specs.Inserting as put
@@ -54,14 +55,13 @@ module _ (s : State) (r : Reader) (ds : List Part) (f : List Part → List Part)
   kept_state (put.refused g) b q e k = k
 
 -- all the waiting tokens find room
-pub all_waiting : (t : Tasks) (cap : ℕ) → 64 ≤ cap → leb (0 + length (waiting_of (tasks_of t))) cap ≡ true
+pub all_waiting : (t : Stack Task 64) (cap : ℕ) → 64 ≤ cap → leb (0 + length (waiting_of (tasks_of t))) cap ≡ true
 all_waiting t cap h =
-    let v = t.started.ok.0 in
     let f = t.few in
-    le-leb (0 + length (waiting_of (tasks_of t))) cap (omega (arith, waiting_within (vec_items t.started)))
+    le-leb (0 + length (waiting_of (tasks_of t))) cap (omega (arith, waiting_within t.held.items))
 
 -- what is copied into an empty list is what waits
-pub in_front : (t : Tasks) (len cap : ℕ) (b : Bool) (bs xs ds : List Token) → 64 ≤ cap → len ≡ 0 → bs ≡ [] → b ≡ leb (len + length (waiting_of (tasks_of t))) cap
+pub in_front : (t : Stack Task 64) (len cap : ℕ) (b : Bool) (bs xs ds : List Token) → 64 ≤ cap → len ≡ 0 → bs ≡ [] → b ≡ leb (len + length (waiting_of (tasks_of t))) cap
     → xs ≡ bs ++ cond b (waiting_of (tasks_of t)) [] → ds ≡ xs → ds ≡ waiting_of (tasks_of t)
 in_front t len cap b bs xs ds h e f g k d =
     let yes : b ≡ true = g ∙ rw e (all_waiting t cap h) in

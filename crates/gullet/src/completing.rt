@@ -15,7 +15,8 @@ impl<S: Source> Gullet<S> {
         ensures below { self.new.source.below ≡ self.old.source.below }
     {
         self.waiting.clear();
-        self.tasks.copy_waiting(&mut self.waiting);
+        // at most 64 wait, for which there is room
+        let _ = self.tasks.copy_waiting(&mut self.waiting);
         put_behind(&mut self.source, &self.waiting, res)?;
         self.tasks.end_waiting();
         Ok(Answer::Working)

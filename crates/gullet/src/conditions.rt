@@ -42,7 +42,7 @@ impl<S: Source> Gullet<S> {
         ensures does { Does S.Source.ahead S.Source.place self.old self.new result (λ s r. at_fi_of s r s.conditionals) }
         ensures onward { ReadsOn S.Source.reads self.old self.new }
     {
-        if self.conditionals.count() == 0 {
+        if self.conditionals.is_empty() {
             return Err(self.refusal(GulletRefusal::Misplaced));
         }
         self.conclude(Turn::Close)

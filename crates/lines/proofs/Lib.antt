@@ -1,4 +1,3 @@
-mod Fronts
 mod Letters
 pub mod Reading
 pub mod Bounds

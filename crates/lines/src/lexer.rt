@@ -1,35 +1,24 @@
-ghost use Rattle.std.specs.Prelude.{◌≡◌, ◌+◌, ◌-◌, ◌^◌, ◌<◌, ◌≤◌, length, take};
+ghost use Rattle.std.specs.Prelude.{◌≡◌, ◌+◌, ◌-◌, ◌^◌, ◌<◌, length};
+ghost use Rattle.std.specs.List.{prefix_len};
 ghost use Rattle.lines.specs.Pieces.{shown};
-ghost use Rattle.lines.specs.Line.{is_letter, letters, escaped, piece_by, more_by, piece_of, taken_of};
+ghost use Rattle.lines.specs.Line.{category, is_letter, escaped, piece_by, more_by, piece_of, taken_of};
 
 use crate::piece::{LineState, Piece};
 use tokens::{Category, TokenCategory};
 
 const BLANK: u8 = 32;
 
-fn is_letter(category: Category) -> bool
-    ensures { result ≡ is_letter category }
-{
-    match category {
-        Category::Letter => true,
-        _ => false,
-    }
-}
-
 // How many letters stand at the front.
 fn letter_count(line: &[u8], categories: &[Category; 256]) -> usize
-    ensures run { take result line.now ≡ letters categories.now line.now }
-    ensures within { result ≤ length line.now }
+    ensures { result ≡ prefix_len (λ b. is_letter (category categories.now b)) line.now }
 {
-    for (i, byte) in line.iter().enumerate() {
-        if !is_letter(categories[*byte as usize]) {
-            return i;
-        }
-    }
-    line.len()
+    line.iter()
+        .take_while(|byte| categories[**byte as usize] == Category::Letter)
+        .count()
 }
 
 // The part behind an escape that spells its name: a run of letters, else one byte, else none.
+#[tactic(auto, using(crate::proofs::Letters::count_within, crate::proofs::Letters::count_escaped))]
 fn name_part<'a>(rest: &'a [u8], categories: &[Category; 256]) -> &'a [u8]
     ensures { result.now ≡ escaped categories.now rest.now }
 {
@@ -38,9 +27,9 @@ fn name_part<'a>(rest: &'a [u8], categories: &[Category; 256]) -> &'a [u8]
     }
     let count = letter_count(rest, categories);
     if count == 0 {
-        &rest[0..1]
+        &rest[..1]
     } else {
-        &rest[0..count]
+        &rest[..count]
     }
 }
 
@@ -95,15 +84,8 @@ pub fn lexed<'a>(
     ensures piece { shown result.0 ≡ piece_of categories.now state line.now }
     ensures taken { result.1 ≡ taken_of categories.now state line.now }
 {
-    if line.is_empty() {
-        return (Piece::Nothing, 0);
+    match line {
+        [] => (Piece::Nothing, 0),
+        [byte, rest @ ..] => piece_by(*byte, categories[*byte as usize], rest, state, categories),
     }
-    let byte = line[0];
-    piece_by(
-        byte,
-        categories[byte as usize],
-        &line[1..],
-        state,
-        categories,
-    )
 }

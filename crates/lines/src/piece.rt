@@ -5,7 +5,7 @@ ghost use Rattle.lines.specs.Line.{behind_byte, behind_name, state_after};
 use tokens::{Category, TokenCategory};
 
 // Where a line stands: nothing taken yet but blanks, in the middle, or after a blank or a name.
-#[derive(Clone, Copy)]
+#[derive(Clone, Copy, Debug, PartialEq, Eq)]
 pub enum LineState {
     NewLine,
     MidLine,
@@ -13,7 +13,7 @@ pub enum LineState {
 }
 
 // What the next bytes of a line give. A name is the part of the line that spells it.
-#[derive(Clone, Copy)]
+#[derive(Clone, Copy, Debug, PartialEq, Eq)]
 pub enum Piece<'a> {
     Character(TokenCategory, u8),
     Active(u8),

@@ -1,59 +1,59 @@
--- What the table's entries say of its spellings, and what one more entry makes of them.
-use Rattle.std.proofs.Common.{◌≡◌, ℕ, ◌+◌, ◌<◌, List, [], ◌∷◌, ◌++◌, length, get_or, set, None, vec_items, vec_len, sym, ap, ◌∙◌, subst, arith}
-use Rattle.std.proofs.lemmas.List.{length-map, get_or-map, map_push}
-use Rattle.names.specs.declared.spelling.Entry.{Entry}
+-- What the table's entries say of its spellings.
+use Rattle.std.proofs.Common.{◌≡◌, ℕ, ◌+◌, Bool, true, false, cond, List, [], ◌∷◌, ◌++◌, length, Some, None, refl, sym, ap, subst, ◌∙◌, arith}
+use Rattle.std.specs.Cmp.Lexicographic.{nat_list_eq_equiv}
+use Rattle.std.specs.Str.{bytes_eq}
+use Rattle.std.specs.List.{position, position_from, list_any}
+use Rattle.std.specs.Option.{option_map}
+use Rattle.std.proofs.lemmas.Iterator.Adapters.{position_from-zero}
+use Rattle.std.proofs.lemmas.List.{length-map, length_push, map_push}
+use Rattle.indexmap.specs.IndexSet.{index_set_len, insert_key}
+use Rattle.names.specs.declared.spelling.Spelling.{Spelling}
 use Rattle.names.specs.declared.table.Table.{Table}
-use Rattle.names.specs.Naming.{number_in, Distinct}
-use Rattle.names.specs.Entries.{spellings, belows}
-use Rattle.names.specs.Spelled.{spelled, held}
-use Rattle.names.specs.Indexing.{bucket_of, Newest, Bounded, Linked}
+use Rattle.names.specs.Naming.{find, number_in, Distinct}
+use Rattle.names.specs.Entries.{spelled, spellings}
+use Rattle.names.specs.Spelled.{held}
 use Rattle.names.proofs.Finding.{none_found, distinct_push}
-use Rattle.names.proofs.Places.{bounded_push, linked_push}
 
-abbrev spell : Entry → List ℕ
-spell e = spelled e.spelling
+pub held_long : (t : Table) → length (held t) ≡ index_set_len t.entries
+held_long t = length-map t.entries.keys spelled
 
-abbrev link : Entry → ℕ
-link e = e.below
+module _ (s : List ℕ) where
+  abbrev same : Spelling → Bool
+  same e = bytes_eq s (spelled e)
 
-pub held_long : (t : Table) → length (held t) ≡ vec_len t.entries
-held_long t = omega (arith, t.entries.ok.0, length-map (vec_items t.entries) spell)
+  turned : (e : Spelling) → bytes_eq (spelled e) s ≡ same e
+  turned e = nat_list_eq_equiv.symm (spelled e) s
 
-module _ (t : Table) (i : ℕ) (e : Entry) (h : i < vec_len t.entries) (x : e ≡ get_or (vec_items t.entries) i e) where
-  inside : i < length (vec_items t.entries)
-  inside = omega (arith, t.entries.ok.0)
+  find_from : (k i : ℕ) (es : List Spelling) → find (k + i) s (spellings es) ≡ option_map (λ j. k + j) (position_from same i es)
+  find_from k i [] = refl
+  find_from k i (e ∷ es) = rw (turned e) (elim (same e) as (λ b. cond b (Some (k + i)) (find (k + i + 1) s (spellings es)) ≡ option_map (λ j. k + j) (cond b (Some i) (position_from same (i + 1) es))) [
+    | true ↦ refl
+    | false ↦ ap (λ n. find n s (spellings es)) next ∙ find_from k (i + 1) es
+  ])
+    where
+      next : k + i + 1 ≡ k + (i + 1)
+      next = omega arith
 
-  pub spelled_at : get_or (held t) i [] ≡ spelled e.spelling
-  spelled_at = get_or-map spell (vec_items t.entries) i e [] inside ∙ ap spell (sym x)
+  -- a number tells a place
+  pub find_place : (es : List Spelling) → number_in (spellings es) s ≡ option_map (λ i. 256 + i) (position same es)
+  find_place es = find_from 256 0 es ∙ ap (option_map (λ i. 256 + i)) (sym (position_from-zero same es))
 
-  below_at : get_or (belows (vec_items t.entries)) i 0 ≡ e.below
-  below_at = get_or-map link (vec_items t.entries) i e 0 inside ∙ ap link (sym x)
+  unlike_all : (e : Spelling) (es : List Spelling) (k : ℕ) (b : Bool) → same e ≡ b → cond b (Some k) (find (k + 1) s (spellings es)) ≡ None → (find (k + 1) s (spellings es) ≡ None → list_any same es ≡ false) → list_any same (e ∷ es) ≡ false
+  unlike_all e es k true x y more = cc
+  unlike_all e es k false x y more = rw x (more y)
 
-  pub newest_at : Newest (held t) (bucket_of (get_or (held t) i [])) i e.below
-  newest_at = subst (λ n. Newest (held t) (bucket_of (get_or (held t) i [])) i n) below_at (t.linked (i, omega (arith, held_long t)))
+  -- a spelling without a number is equal to none
+  pub unlike : (k : ℕ) (es : List Spelling) → find k s (spellings es) ≡ None → list_any same es ≡ false
+  unlike k [] h = refl
+  unlike k (e ∷ es) h = unlike_all e es k (same e) refl (ap (λ b. cond b (Some k) (find (k + 1) s (spellings es))) (sym (turned e)) ∙ h) (unlike (k + 1) es)
 
 -- one more entry: es are the entries then
-module _ (t : Table) (es : List Entry) (e : Entry) (s : List ℕ) (items : es ≡ vec_items t.entries ++ (e ∷ [])) (same : spelled e.spelling ≡ s) where
-  pub held_push : spellings es ≡ held t ++ (s ∷ [])
-  held_push = ap spellings items ∙ map_push spell (vec_items t.entries) e ∙ ap (λ x. held t ++ (x ∷ [])) same
+module _ (t : Table) (e : Spelling) (absent : number_in (held t) (spelled e) ≡ None) (es : List Spelling) (put : es ≡ insert_key (λ x y. bytes_eq (spelled x) (spelled y)) t.entries.keys e) where
+  pub held_push : spellings es ≡ held t ++ (spelled e ∷ [])
+  held_push = ap spellings put ∙ rw (unlike (spelled e) 256 t.entries.keys absent) (map_push spelled t.entries.keys e)
 
-  pub distinct_after : number_in (held t) s ≡ None → Distinct (spellings es)
-  distinct_after absent = subst Distinct (sym held_push) (distinct_push (held t) s t.distinct (none_found 256 s (held t) absent))
+  pub more_after : length es ≡ index_set_len t.entries + 1
+  more_after = omega (arith, ap length held_push, length_push (held t) (spelled e), length-map es spelled, held_long t)
 
-  module _ (b : ℕ) (its : b ≡ bucket_of s) where
-    pub bounded_after : (n : ℕ) → b < length t.bounds → n ≡ vec_len t.entries → Bounded (spellings es) (set t.bounds b (n + 1))
-    bounded_after n l counted =
-        let long : length (held t) ≡ n = held_long t ∙ sym counted in
-        subst (λ ns. Bounded ns (set t.bounds b (n + 1))) (sym held_push)
-        (subst (λ k. Bounded (held t ++ (s ∷ [])) (set t.bounds b (k + 1))) long (bounded_push (held t) t.bounds s b l its t.bounded))
-
-    pub linked_after : e.below ≡ get_or t.bounds b 0 → Linked (spellings es) (belows es)
-    linked_after next =
-        let chain : belows es ≡ belows (vec_items t.entries) ++ (get_or t.bounds b 0 ∷ []) =
-        ap belows items ∙ map_push link (vec_items t.entries) e ∙ ap (λ m. belows (vec_items t.entries) ++ (m ∷ [])) next in
-        let long : length (belows (vec_items t.entries)) ≡ length (held t) =
-        omega (arith, length-map (vec_items t.entries) spell, length-map (vec_items t.entries) link) in
-        let first : Newest (held t) (bucket_of s) (length (held t)) (get_or t.bounds b 0) =
-        subst (λ k. Newest (held t) k (length (held t)) (get_or t.bounds b 0)) its (t.bounded b) in
-        subst (λ ns. Linked ns (belows es)) (sym held_push)
-        (subst (λ bs. Linked (held t ++ (s ∷ [])) bs) (sym chain) (linked_push (held t) (belows (vec_items t.entries)) s (get_or t.bounds b 0) long t.linked first))
+  pub distinct_after : Distinct (spellings es)
+  distinct_after = subst Distinct (sym held_push) (distinct_push (held t) (spelled e) t.distinct (none_found 256 (spelled e) (held t) absent))

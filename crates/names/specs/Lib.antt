@@ -1,4 +1,3 @@
 pub mod Naming
 pub mod Entries
-pub mod Indexing
 pub mod Spelled

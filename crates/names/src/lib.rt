@@ -1,11 +1,9 @@
 #![tactic(auto)]
 
-mod bucket;
 mod fault;
 mod names;
 mod naming;
 mod searching;
-mod spelled;
 mod spelling;
 mod table;
 

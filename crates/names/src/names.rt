@@ -1,4 +1,5 @@
-ghost use Rattle.std.specs.Prelude.{◌≡◌, ◌≤◌, take, vec_len};
+ghost use Rattle.std.specs.Prelude.{◌≡◌, ◌≤◌, take};
+ghost use Rattle.indexmap.specs.IndexSet.{index_set_len};
 ghost use Rattle.names.specs.Entries.{spellings};
 ghost use Rattle.names.specs.Naming.{first_names};
 
@@ -8,6 +9,6 @@ use crate::table::Table;
 #[derive(Drop)]
 pub struct Names {
     pub(crate) table: Table,
-    ghost enough: { 16 ≤ vec_len table.entries },
-    ghost first: { take 16 (spellings table.entries.items) ≡ first_names },
+    ghost enough: { 16 ≤ index_set_len table.entries },
+    ghost first: { take 16 (spellings table.entries.keys) ≡ first_names },
 }

@@ -3,7 +3,6 @@ ghost use Rattle.std.specs.Option.{option_map};
 ghost use Rattle.names.specs.Naming.{number_in, spelling_in, taken_in, enter, number_of, names_after, first_names};
 ghost use Rattle.names.specs.Spelled.{listed};
 
-use crate::bucket::bucket_of;
 use crate::fault::NamesFault;
 use crate::names::Names;
 use crate::table::{FIRST_NUMBER, Table};
@@ -55,17 +54,15 @@ impl Names {
     pub fn number(&self, spelling: &[u8]) -> Option<u16>
         ensures { result ≡ number_in (listed self.now) spelling.now }
     {
-        self.table.sought(bucket_of(spelling), spelling)
+        self.table.sought(spelling)
     }
 
     // The spelling of a number, if it has one.
     pub fn spelling(&self, number: u16) -> Option<&[u8]>
         ensures { option_map (λ x. x.now) result ≡ spelling_in (listed self.now) number }
     {
-        if number < FIRST_NUMBER {
-            return None;
-        }
-        self.table.spelling_at((number - FIRST_NUMBER) as usize)
+        let place = number.checked_sub(FIRST_NUMBER)?;
+        self.table.spelling_at(usize::from(place))
     }
 
     // How many numbers are taken, with those of the active characters.

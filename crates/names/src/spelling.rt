@@ -1,19 +1,65 @@
-ghost use Rattle.std.specs.Prelude.{◌≤◌};
+ghost use Rattle.std.specs.Prelude.{◌≡◌, ◌≤◌, [], ◌∷◌, length};
+ghost use Rattle.std.specs.Cmp.Lexicographic.{bytes_decides, nat_list_eq_equiv};
+ghost use Rattle.std.specs.Str.{bytes_eq};
+ghost use Rattle.std.proofs.Common.{ap};
+ghost use Rattle.names.specs.Entries.{spelled};
+
+use arrayvec::ArrayVec;
+use indexmap::Equivalent;
+use std::hash::{Hash, Hasher};
 
 // The most bytes of a spelling.
 pub const SPELLING_LIMIT: usize = 32;
 
-// The bytes of a name.
-#[derive(Clone, Copy)]
+// The bytes of a name. They are hashed in one write, which takes fewer steps than one for each byte, as a derive has it.
+#[derive(Debug, PartialEq, Eq, Drop)]
 pub struct Spelling {
-    pub(crate) bytes: [u8; SPELLING_LIMIT],
-    pub(crate) count: u8,
-    ghost ok: { count ≤ 32 },
+    pub(crate) bytes: ArrayVec<u8, SPELLING_LIMIT>,
 }
 
-// A spelling in its place, and one past the newest place below it in the same bucket, or 0.
-#[derive(Clone, Copy)]
-pub struct Entry {
-    pub(crate) spelling: Spelling,
-    pub(crate) below: u16,
+impl Spelling {
+    pub(crate) fn of(bytes: &[u8]) -> Spelling
+        requires { length bytes.now ≤ 32 }
+        ensures { spelled result ≡ bytes.now }
+    {
+        Spelling {
+            bytes: ArrayVec::try_from(bytes).unwrap(),
+        }
+    }
+}
+
+impl Hash for Spelling {
+    ghost hash_input = { λ s. spelled s ∷ [] };
+
+    ghost respects_eq = { λ s t h. ap (λ l. l ∷ []) ((bytes_decides (spelled s) (spelled t)).0 h) };
+
+    fn hash<H: Hasher>(&self, state: &mut H) {
+        state.write(self.bytes.as_slice());
+    }
+}
+
+// The bytes by which a spelling is sought.
+#[derive(Clone, Copy, Debug, PartialEq, Eq)]
+pub struct Sought<'a>(pub(crate) &'a [u8]);
+
+impl Hash for Sought<'_> {
+    ghost hash_input = { λ s. s.0.now ∷ [] };
+
+    ghost respects_eq = { λ s t h. ap (λ l. l ∷ []) ((bytes_decides s.0.now t.0.now).0 h) };
+
+    fn hash<H: Hasher>(&self, state: &mut H) {
+        state.write(self.0);
+    }
+}
+
+impl Equivalent<Spelling> for Sought<'_> {
+    ghost equivalent = { λ s t. bytes_eq s.0.now (spelled t) };
+
+    ghost respects_hash = { λ s t h. ap (λ l. l ∷ []) ((bytes_decides s.0.now (spelled t)).0 h) };
+
+    ghost respects_eq = { λ s t u. nat_list_eq_equiv.congr s.0.now (spelled t) (spelled u) };
+
+    fn equivalent(&self, spelling: &Spelling) -> bool {
+        self.0 == spelling.bytes.as_slice()
+    }
 }

@@ -1,9 +1,10 @@
-ghost use Rattle.std.specs.Prelude.{◌≤◌, vec_len, vec_capacity};
+ghost use Rattle.std.specs.Prelude.{◌+◌, ◌≤◌};
+ghost use Rattle.indexmap.specs.IndexSet.{index_set_len, spare};
 ghost use Rattle.names.specs.Naming.{Distinct};
-ghost use Rattle.names.specs.Entries.{spellings, belows};
-ghost use Rattle.names.specs.Indexing.{Bounded, Linked};
+ghost use Rattle.names.specs.Entries.{spellings};
 
-use crate::spelling::Entry;
+use crate::spelling::Spelling;
+use indexmap::IndexSet;
 
 // The number of the first spelling; those below it are the active characters'.
 pub const FIRST_NUMBER: u16 = 256;
@@ -11,17 +12,11 @@ pub const FIRST_NUMBER: u16 = 256;
 // The most spellings: the numbers end below 1,024.
 pub const SPELLINGS_LIMIT: usize = 768;
 
-// A search looks only at the spellings of one bucket.
-pub const BUCKETS: usize = 512;
-
-// Spellings in the order in which they were entered. Each bucket has one past its newest place, or 0.
+// Spellings in the order in which they were entered, with memory for all.
 #[derive(Drop)]
 pub struct Table {
-    pub(crate) entries: Vec<Entry>,
-    pub(crate) bounds: [u16; BUCKETS],
-    ghost few: { vec_len entries ≤ 768 },
-    ghost room: { 768 ≤ vec_capacity entries },
-    ghost distinct: { Distinct (spellings entries.items) },
-    ghost bounded: { Bounded (spellings entries.items) bounds },
-    ghost linked: { Linked (spellings entries.items) (belows entries.items) },
+    pub(crate) entries: IndexSet<Spelling>,
+    ghost few: { index_set_len entries ≤ 768 },
+    ghost room: { 768 ≤ index_set_len entries + spare entries },
+    ghost distinct: { Distinct (spellings entries.keys) },
 }

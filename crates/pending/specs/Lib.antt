@@ -1,3 +1,4 @@
 pub mod Fronts
 pub mod Opened
+pub mod Stacked
 pub mod Underway

@@ -5,16 +5,17 @@
 --   prefixed         a prefix that is the newest task, with another together
 --   waiting_of       the tokens that wait at the newest end, the oldest of them first
 --   beyond_waiting   the tasks behind these
-use Rattle.std.specs.Prelude.{Bool, true, false, ◌||◌, List, [], ◌∷◌, ◌++◌, reverse, vec_items}
+use Rattle.std.specs.Prelude.{ℕ, Bool, true, false, ◌||◌, List, [], ◌∷◌, ◌++◌}
 use Rattle.tokens.specs.declared.token.Token.{Token}
 use Rattle.pending.specs.declared.task.Prefix.{Prefix}
 use Rattle.pending.specs.declared.task.Task.{Task}
 use Rattle.pending.specs.declared.task.Task.TheVariants as task
 use Rattle.pending.specs.declared.task.Task.TheVariants.{After}
-use Rattle.pending.specs.declared.tasks.Tasks.{Tasks}
+use Rattle.pending.specs.declared.stack.Stack.{Stack}
+use Rattle.pending.specs.Stacked.{items_of}
 
-abbrev pub tasks_of : Tasks → List Task
-tasks_of s = reverse (vec_items s.started)
+abbrev pub tasks_of : {n : ℕ} → Stack Task n → List Task
+tasks_of s = items_of s
 
 abbrev pub joint : Prefix → Prefix → Prefix
 joint p q = record { global = p.global || q.global; long = p.long || q.long }

@@ -2,15 +2,14 @@
 #![tactic(auto)]
 
 mod conditional;
-mod conditionals;
 mod opening;
 mod prefixes;
+mod stack;
+mod stacking;
 mod task;
 mod tasking;
-mod tasks;
 mod waits;
 
-pub use conditional::{Conditional, Part};
-pub use conditionals::Conditionals;
-pub use task::{Prefix, Task};
-pub use tasks::Tasks;
+pub use conditional::{Conditional, Conditionals, Part};
+pub use stack::{Full, Stack};
+pub use task::{NoPrefix, Prefix, Task, Tasks};

@@ -1,6 +1,7 @@
 use names::Names;
 use sources::{MakeFault, PileFault, Place, Source, Text};
 use std::alloc::{AllocError, Global};
+use std::fmt::Write;
 use tokens::Category;
 
 // Why a trial cannot be run.
@@ -17,26 +18,26 @@ impl From<AllocError> for Trial {
     }
 }
 
-pub(crate) fn text(heap: Global, bytes: &[u8]) -> Result<Text, Trial> {
-    match Text::new(heap, bytes.to_vec(heap)?) {
-        Ok(text) => Ok(text),
-        Err(MakeFault::NoMemory) => Err(Trial::NoMemory),
-        Err(MakeFault::Refused(_)) => Err(Trial::NoText),
+impl From<MakeFault> for Trial {
+    fn from(fault: MakeFault) -> Trial {
+        match fault {
+            MakeFault::NoMemory => Trial::NoMemory,
+            MakeFault::Refused(_) => Trial::NoText,
+        }
     }
 }
 
-fn write_place(heap: Global, written: &mut String, place: Place) -> Result<(), AllocError> {
-    let line = place.line;
-    let bytes = place.bytes;
-    let text = format!(in heap; "@{line}.{bytes}")?;
-    written.push_str(text.as_str())
+pub(crate) fn text(heap: Global, bytes: &[u8]) -> Result<Text, Trial> {
+    Ok(Text::new(heap, bytes.to_vec(heap)?)?)
 }
 
-fn write_fault(heap: Global, written: &mut String, fault: PileFault) -> Result<(), AllocError> {
-    let number = fault.number();
-    let text = format!(in heap; "refused {number}")?;
-    written.push_str(text.as_str())?;
-    write_place(heap, written, fault.place())
+fn write_place(written: &mut String, place: Place) -> Result<(), AllocError> {
+    write!(written, "@{}.{}", place.line, place.bytes)
+}
+
+fn write_fault(written: &mut String, fault: PileFault) -> Result<(), AllocError> {
+    write!(written, "refused {}", fault.number())?;
+    write_place(written, fault.place())
 }
 
 // What the reads of a source answer up to its end, each with the place then.
@@ -50,16 +51,15 @@ pub(crate) fn traced<S: Source>(
     for _ in 0..100 {
         match source.read(&table, names) {
             Ok(Some(token)) => {
-                let word = token.word();
-                written.push_str(format!(in heap; "{word:08x}")?.as_str())?;
-                write_place(heap, &mut written, source.place())?;
+                write!(written, "{:08x}", u32::from(token))?;
+                write_place(&mut written, source.place())?;
             }
             Ok(None) => {
                 written.push_str("end")?;
-                write_place(heap, &mut written, source.place())?;
+                write_place(&mut written, source.place())?;
                 return Ok(written);
             }
-            Err(fault) => write_fault(heap, &mut written, fault)?,
+            Err(fault) => write_fault(&mut written, fault)?,
         }
         written.push_str(" ")?;
     }

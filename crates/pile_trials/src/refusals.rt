@@ -5,12 +5,10 @@ use sources::{Source, Text};
 use std::test::Fail;
 use tokens::Category;
 
-// The number of the refusal of some words, 0 where they are put.
-fn inserted(pile: &mut PutBack<Text>, words: &[u32], names: &Names) -> u8 {
-    match pile.insert(words, names) {
-        Ok(()) => 0,
-        Err(fault) => fault.number(),
-    }
+// The number of the refusal of some words, if they are refused.
+fn inserted(pile: &mut PutBack<Text>, words: &[u32], names: &Names) -> Option<u8> {
+    let fault = pile.insert(words, names).err()?;
+    Some(fault.number())
 }
 
 #[test]
@@ -22,25 +20,25 @@ fn as_many_as_fit(rt: HostRuntime) -> Result<(), Fail> {
     words.push(0x5000_0061)?;
     assert_eq!(rt;
         inserted(&mut pile, words.as_slice(), &names),
-        38,
+        Some(38),
         "the last word is bad"
     );
     let _ = words.pop();
     words.push(0)?;
     assert_eq!(rt;
         inserted(&mut pile, words.as_slice(), &names),
-        40,
+        Some(40),
         "4,097 words"
     );
     assert_eq!(rt; pile.held(), 0);
     let _ = words.pop();
     assert_eq!(rt;
         inserted(&mut pile, words.as_slice(), &names),
-        0,
+        None,
         "4,096 words"
     );
-    assert_eq!(rt; inserted(&mut pile, &[0], &names), 40);
-    assert_eq!(rt; inserted(&mut pile, &[], &names), 0);
+    assert_eq!(rt; inserted(&mut pile, &[0], &names), Some(40));
+    assert_eq!(rt; inserted(&mut pile, &[], &names), None);
     assert_eq!(rt; pile.held(), 4_096);
     Ok(())
 }
@@ -59,10 +57,10 @@ fn words_of_no_token(rt: HostRuntime) -> Result<(), Fail> {
         0x9000_0061,
         0xd000_0000,
     ] {
-        assert_eq!(rt; inserted(&mut pile, &[0xb000_0061, word], &names), 38);
+        assert_eq!(rt; inserted(&mut pile, &[0xb000_0061, word], &names), Some(38));
         assert_eq!(rt; pile.held(), 0);
     }
-    assert_eq!(rt; inserted(&mut pile, &[0, 255, 256, taken - 1], &names), 0);
+    assert_eq!(rt; inserted(&mut pile, &[0, 255, 256, taken - 1], &names), None);
     assert_eq!(rt; pile.held(), 4);
     Ok(())
 }

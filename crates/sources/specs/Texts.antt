@@ -53,7 +53,7 @@ place_at n (l ∷ ls) (suc p) = cond (nat_le (suc p) (length l)) (record { line 
 abbrev pub place_in : List (List ℕ) → List Item → Place
 place_in ls is = place_at 0 ls (total ls - extent is)
 
--- the code's loops: one line at a time
+-- one line at a time
 
 abbrev pub first_line : List ℕ → List ℕ
 first_line [] = []

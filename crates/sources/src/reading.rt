@@ -18,10 +18,7 @@ fn token_of(piece: Piece<'_>, names: &mut Names) -> Result<Option<Token>, ReadRe
     match piece {
         Piece::Character(category, code) => Ok(Some(Token::Character(category, code))),
         Piece::Active(code) => Ok(Some(Token::Name(u16::from(code)))),
-        Piece::Name(part) => match names.enter(part) {
-            Ok(number) => Ok(Some(Token::Name(number))),
-            Err(fault) => Err(ReadRefusal::Names(fault)),
-        },
+        Piece::Name(part) => Ok(Some(Token::Name(names.enter(part)?))),
         Piece::Nothing => Ok(None),
         Piece::Refused => Err(ReadRefusal::Line(LineRefusal::Invalid)),
     }
@@ -60,10 +57,8 @@ pub(crate) fn token_in(
     ensures within { cursor.new.taken ≤ length line.now }
 {
     'pieces: while cursor.taken < line.len() {
-        match piece_in(line, cursor, categories, names) {
-            Ok(Some(token)) => return Ok(Some(token)),
-            Ok(None) => {}
-            Err(refusal) => return Err(refusal),
+        if let Some(token) = piece_in(line, cursor, categories, names)? {
+            return Ok(Some(token));
         }
     }
     Ok(None)

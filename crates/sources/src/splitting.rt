@@ -1,5 +1,5 @@
-ghost use Rattle.std.specs.Prelude.{◌≡◌, ◌+◌, ◌≤◌, length, take, drop};
-ghost use Rattle.sources.specs.Texts.{first_line, after_line, trimmed};
+ghost use Rattle.std.specs.Prelude.{◌≡◌, ◌==◌};
+ghost use Rattle.std.specs.List.{position_or_len, suffix_len};
 
 const LINE_END: u8 = 10;
 
@@ -7,29 +7,14 @@ const BLANK: u8 = 32;
 
 // How many bytes stand before the first line end.
 pub(crate) fn line_length(rest: &[u8]) -> usize
-    ensures first { take result rest.now ≡ first_line rest.now }
-    ensures after { drop (result + 1) rest.now ≡ after_line rest.now }
-    ensures within { result ≤ length rest.now }
+    ensures { result ≡ position_or_len (λ b. b == 10) rest.now }
 {
-    for (i, byte) in rest.iter().enumerate() {
-        if *byte == LINE_END {
-            return i;
-        }
-    }
-    rest.len()
+    rest.iter().take_while(|byte| **byte != LINE_END).count()
 }
 
-// How many bytes a line keeps: all but its trailing blanks.
-pub(crate) fn kept_length(line: &[u8]) -> usize
-    ensures kept { take result line.now ≡ trimmed line.now }
-    ensures within { result ≤ length line.now }
+// How many blanks stand at the end of a line.
+pub(crate) fn blank_count(line: &[u8]) -> usize
+    ensures { result ≡ suffix_len (λ b. b == 32) line.now }
 {
-    let mut count = line.len();
-    'blanks: while count > 0 {
-        if line[count - 1] != BLANK {
-            return count;
-        }
-        count -= 1;
-    }
-    0
+    line.iter().rev().take_while(|byte| **byte == BLANK).count()
 }

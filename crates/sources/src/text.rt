@@ -1,8 +1,10 @@
-ghost use Rattle.std.specs.Prelude.{◌+◌, ◌≤◌, vec_len, vec_capacity};
+ghost use Rattle.std.specs.Prelude.{◌≡◌, ◌+◌, ◌≤◌, vec_len, vec_capacity};
 ghost use Rattle.sources.specs.Texts.{Begun};
+ghost use Rattle.sources.specs.declared.text.MakeFault.TheVariants.{NoMemory, Refused};
 
 use crate::cursor::Cursor;
 use crate::fault::PileFault;
+use std::alloc::AllocError;
 
 // A text as a source: its bytes, and the line that is being read, as it is made of them.
 #[derive(Drop)]
@@ -21,8 +23,24 @@ pub struct Text {
 }
 
 // Why a text cannot be made.
-#[derive(Clone, Copy)]
+#[derive(Clone, Copy, Debug, PartialEq, Eq)]
 pub enum MakeFault {
     NoMemory,
     Refused(PileFault),
+}
+
+impl From<AllocError> for MakeFault {
+    ghost from_gives = { λ _ r. r ≡ NoMemory };
+
+    fn from(_: AllocError) -> MakeFault {
+        MakeFault::NoMemory
+    }
+}
+
+impl From<PileFault> for MakeFault {
+    ghost from_gives = { λ e r. r ≡ Refused e };
+
+    fn from(fault: PileFault) -> MakeFault {
+        MakeFault::Refused(fault)
+    }
 }

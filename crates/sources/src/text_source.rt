@@ -29,13 +29,10 @@ impl Text {
         ensures bytes { self.new.bytes ≡ self.old.bytes }
         ensures next { self.new.next ≡ self.old.next }
     {
-        match token_in(&self.line, &mut self.cursor, categories, names) {
-            Ok(token) => Ok(token),
-            Err(refusal) => Err(LineFault {
-                refusal,
-                place: self.here(),
-            }),
-        }
+        token_in(&self.line, &mut self.cursor, categories, names).map_err(|refusal| LineFault {
+            refusal,
+            place: self.here(),
+        })
     }
 
     fn here(&self) -> Place

@@ -4,9 +4,8 @@ ghost use Rattle.sources.specs.Texted.{text_ahead, MadeText};
 
 use crate::cursor::Cursor;
 use crate::fault::{PileFault, PileRefusal, Place};
-use crate::splitting::{kept_length, line_length};
+use crate::splitting::{blank_count, line_length};
 use crate::text::{MakeFault, Text};
-use lines::LineState;
 use std::alloc::Global;
 
 const TEXT_LIMIT: usize = 65_536;
@@ -34,8 +33,8 @@ fn first_line(line: &mut Vec<u8>, rest: &[u8]) -> usize
     ensures within { result ≤ length rest.now + 1 }
 {
     let count = line_length(rest);
-    let kept = kept_length(&rest[0..count]);
-    make_line(line, &rest[0..kept]);
+    let kept = count - blank_count(&rest[..count]);
+    make_line(line, &rest[..kept]);
     count + 1
 }
 
@@ -44,23 +43,18 @@ impl Text {
     pub fn new(heap: Global, bytes: Vec<u8>) -> Result<Text, MakeFault>
         ensures { MadeText bytes.items result }
     {
-        let origin = Place { line: 0, bytes: 0 };
         if bytes.len() > TEXT_LIMIT {
-            return Err(MakeFault::Refused(PileFault::Pile(PileRefusal::TextTooLong, origin)));
+            let origin = Place { line: 0, bytes: 0 };
+            return Err(PileFault::Pile(PileRefusal::TextTooLong, origin).into());
         }
-        match Vec::with_capacity(heap, bytes.len() + 1) {
-            Ok(line) => Ok(Text {
-                bytes,
-                next: 0,
-                line,
-                number: 0,
-                cursor: Cursor {
-                    taken: 0,
-                    state: LineState::NewLine,
-                },
-            }),
-            Err(_) => Err(MakeFault::NoMemory),
-        }
+        let line = Vec::with_capacity(heap, bytes.len() + 1)?;
+        Ok(Text {
+            bytes,
+            next: 0,
+            line,
+            number: 0,
+            cursor: Cursor::START,
+        })
     }
 
     // Begins the next line, once this one is read to its end; false where there is none.
@@ -75,10 +69,7 @@ impl Text {
         }
         self.next += first_line(&mut self.line, &self.bytes[self.next..]);
         self.number += 1;
-        self.cursor = Cursor {
-            taken: 0,
-            state: LineState::NewLine,
-        };
+        self.cursor = Cursor::START;
         true
     }
 }

@@ -6,7 +6,7 @@ use std::fmt;
 use tokens::Token;
 
 // A line of the trace.
-#[derive(Clone, Copy)]
+#[derive(Clone, Copy, Debug, PartialEq, Eq)]
 pub enum Line {
     Word(u32),
     Refused(u8, usize, usize),
@@ -20,7 +20,7 @@ impl Line {
         ensures { result ≡ read_line answer }
     {
         match answer {
-            Ok(Some(token)) => Line::Word(token.word()),
+            Ok(Some(token)) => Line::Word(u32::from(token)),
             Ok(None) => Line::End,
             Err(fault) => Line::of_fault(fault),
         }
@@ -37,10 +37,7 @@ impl Line {
     pub fn is_end(self) -> bool
         ensures { result ≡ is_end self }
     {
-        match self {
-            Line::End => true,
-            Line::Word(_) | Line::Refused(_, _, _) | Line::Stopped => false,
-        }
+        self == Line::End
     }
 }
 

@@ -9,16 +9,13 @@ fn the_last_number(rt: HostRuntime) -> Result<(), Fail> {
     let mut names = Names::new(rt.alloc())?;
     for i in 0..752u16 {
         let [high, low] = i.to_be_bytes();
-        match names.enter(&[high, low]) {
-            Ok(number) => assert_eq!(rt; number, 272 + i),
-            Err(_) => return Err(Fail::new("refused too early")),
-        }
+        assert_eq!(rt; names.enter(&[high, low]), Ok(272 + i));
     }
     assert_eq!(rt; names.taken(), 1024);
-    match names.enter(b"one more") {
-        Ok(_) => return Err(Fail::new("number 1,024 given")),
-        Err(fault) => assert_eq!(rt; fault.number(), 13),
-    }
+    assert_eq!(rt;
+        names.enter(b"one more").map_err(|fault| fault.number()),
+        Err(13)
+    );
     assert_eq!(rt; names.taken(), 1024);
     assert_eq!(rt; names.number(b"one more"), None);
     assert_eq!(rt; names.number(b"fi"), Some(271));
@@ -44,29 +41,40 @@ fn the_longest_text(rt: HostRuntime) -> Result<(), Fail> {
     Ok(())
 }
 
+// A piece, without what it holds.
+#[derive(Clone, Copy, Debug, PartialEq, Eq)]
+enum Kind {
+    Space,
+    Character,
+    Active,
+    Name,
+    Nothing,
+    Refused,
+}
+
 // The kind of piece that a byte gives before a letter, told by the byte alone.
-fn expected(byte: u8, state: LineState) -> (&'static str, usize) {
+fn expected(byte: u8, state: LineState) -> (Kind, usize) {
     match (byte, state) {
-        (92, _) => ("name", 2),
-        (13, LineState::NewLine) => ("name", 3),
-        (13, LineState::MidLine) => ("space", 3),
-        (13, LineState::SkipBlanks) | (37, _) => ("nothing", 3),
-        (9 | 32, LineState::MidLine) => ("space", 1),
-        (9 | 32, _) | (0, _) => ("nothing", 1),
-        (127, _) => ("refused", 1),
-        (126, _) => ("active", 1),
-        _ => ("character", 1),
+        (92, _) => (Kind::Name, 2),
+        (13, LineState::NewLine) => (Kind::Name, 3),
+        (13, LineState::MidLine) => (Kind::Space, 3),
+        (13, LineState::SkipBlanks) | (37, _) => (Kind::Nothing, 3),
+        (9 | 32, LineState::MidLine) => (Kind::Space, 1),
+        (9 | 32, _) | (0, _) => (Kind::Nothing, 1),
+        (127, _) => (Kind::Refused, 1),
+        (126, _) => (Kind::Active, 1),
+        _ => (Kind::Character, 1),
     }
 }
 
-fn kind(piece: Piece<'_>) -> &'static str {
+fn kind_of(piece: Piece<'_>) -> Kind {
     match piece {
-        Piece::Character(TokenCategory::Space, 32) => "space",
-        Piece::Character(_, _) => "character",
-        Piece::Active(_) => "active",
-        Piece::Name(_) => "name",
-        Piece::Nothing => "nothing",
-        Piece::Refused => "refused",
+        Piece::Character(TokenCategory::Space, 32) => Kind::Space,
+        Piece::Character(_, _) => Kind::Character,
+        Piece::Active(_) => Kind::Active,
+        Piece::Name(_) => Kind::Name,
+        Piece::Nothing => Kind::Nothing,
+        Piece::Refused => Kind::Refused,
     }
 }
 
@@ -83,7 +91,7 @@ fn every_byte_in_every_state(rt: HostRuntime) {
             let (piece, count) = lexed(&line, state, &categories);
             let (said, taken) = expected(byte, state);
             assert_eq!(rt; count, taken);
-            assert_eq!(rt; kind(piece), said);
+            assert_eq!(rt; kind_of(piece), said);
         }
     }
 }

@@ -41,7 +41,7 @@ pub(crate) fn traced(heap: Global, bytes: &[u8]) -> Result<String, Trial> {
     for _ in 0..100_000 {
         match text.read(&categories, &mut names) {
             Ok(Some(token)) => {
-                let word = token.word();
+                let word = u32::from(token);
                 written.push_str(format!(in heap; "{word:08x} ")?.as_str())?;
             }
             Ok(None) => {

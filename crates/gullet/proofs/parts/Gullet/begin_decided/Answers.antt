@@ -1,18 +1,34 @@
-use Rattle.std.proofs.Common.{◌≡◌, false, leb, length, sym, refl, ◌∙◌}
+use Rattle.std.proofs.Common.{◌≡◌, true, false, leb, length, sym, refl, ap, ◌∙◌}
+use Rattle.std.proofs.lemmas.Bool.{leb-false}
+use Rattle.pending.specs.Opened.{parts_of}
+use Rattle.pending.proofs.Parts.{parts_count}
+use Rattle.rules.specs.declared.refusal.GulletRefusal.TheVariants.{ConditionalsFull}
 use Rattle.rules.specs.Expanding.{decided, unless_open}
 use Rattle.rules.specs.Readers.{reader}
 use Rattle.gullet.specs.Fed.{stays}
 use Rattle.gullet.specs.States.{state_of}
-use Rattle.gullet.proofs.Doing.{does_as}
-use Rattle.gullet.proofs.Passed.{unless_few}
+use Rattle.gullet.proofs.Doing.{does_as, does_refuse}
+use Rattle.gullet.proofs.Passed.{unless_full, unless_few}
 use Rattle.gullet.proofs.parts.Gullet.begin_decided.Goals as goal
 
+pub decide-requires : goal.decide-requires
+decide-requires g c =
+    record {
+      room = c.requires;
+      few = leb-false 100 (length (parts_of c.args.self.now.conditionals)) (ap (leb 100) (parts_count c.args.self.now.conditionals) ∙ sym c.is_full.ensures ∙ c.if-is_full.false);
+    }
+
+pub returns-then-is_full-clause-does : goal.returns-then-is_full-clause-does
+returns-then-is_full-clause-does g c =
+    let s = state_of g.S.Source.ahead c.args.self.now in
+    let full : leb 100 (length s.conditionals) ≡ true = ap (leb 100) (parts_count c.args.self.now.conditionals) ∙ sym c.is_full.ensures ∙ c.if-is_full.true in
+    does_refuse _ ConditionalsFull (λ z r. unless_open z r (decided z r c.args.truth)) c.refusal.ensures (λ read. sym (unless_full s (reader s.stands read) (decided s (reader s.stands read) c.args.truth) full))
+
 pub returns-then-is_full-clause-onward : goal.returns-then-is_full-clause-onward
-returns-then-is_full-clause-onward g c =
-    stays refl
+returns-then-is_full-clause-onward g c = stays refl
 
 pub returns-clause-does : goal.returns-clause-does
 returns-clause-does g c =
     let s = state_of g.S.Source.ahead c.args.self.now in
-    let few : leb 100 (length s.conditionals) ≡ false = sym c.is_full.ensures ∙ c.if-is_full.false in
+    let few : leb 100 (length s.conditionals) ≡ false = ap (leb 100) (parts_count c.args.self.now.conditionals) ∙ sym c.is_full.ensures ∙ c.if-is_full.false in
     does_as (λ z r. decided z r c.args.truth) (λ z r. unless_open z r (decided z r c.args.truth)) (λ read. sym (unless_few s (reader s.stands read) (decided s (reader s.stands read) c.args.truth) few)) c.decide.ensures.does

@@ -1,4 +1,4 @@
-use Rattle.std.proofs.Common.{◌≡◌, ◌≤◌, ◌++◌, Ok, vec_items, vec_len, vec_capacity, arith}
+use Rattle.std.proofs.Common.{◌≡◌, ◌≤◌, ◌++◌, Ok, is_ok, vec_items, vec_len, vec_capacity, arith}
 use Rattle.piles.specs.Helds.{held_tokens}
 use Rattle.piles.specs.Inserting.{put_back, put_answer}
 use Rattle.pending.specs.Underway.{tasks_of, waiting_of}
@@ -14,7 +14,7 @@ returns-clause-does g c =
     let cap = c.clear.ensures.capacity in
     let room = me.room in
     let enough : 64 ≤ vec_capacity c.clear.new.self = omega arith in
-    let w = in_front me.tasks (vec_len c.clear.new.self) (vec_capacity c.clear.new.self) c.copy_waiting.result (vec_items c.clear.new.self) (vec_items c.copy_waiting.new.tokens) c.deref.result.now enough c.clear.ensures.len c.clear.ensures.items c.copy_waiting.ensures.answer c.copy_waiting.ensures.tokens c.deref.ensures.value in
+    let w = in_front me.tasks (vec_len c.clear.new.self) (vec_capacity c.clear.new.self) (is_ok c.copy_waiting.result) (vec_items c.clear.new.self) (vec_items c.copy_waiting.new.tokens) c.deref.result.now enough c.clear.ensures.len c.clear.ensures.items c.copy_waiting.ensures.answer c.copy_waiting.ensures.tokens c.deref.ensures.value in
     let e = c.in_ok-put_behind.ensures in
     let x = put_back (waiting_of (tasks_of me.tasks) ++ c.args.res.now) (held_tokens me.source.held) in
     let a : Ok tt ≡ put_answer (g.S.Source.place me.source.below) x = rw w at e.answer in

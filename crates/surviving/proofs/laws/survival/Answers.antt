@@ -1,5 +1,0 @@
-use Rattle.surviving.proofs.laws.survival.Goals as goal
-use Rattle.surviving.proofs.Surviving.{survives}
-
-pub returns : goal.returns
-returns c = survives
