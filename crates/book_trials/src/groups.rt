@@ -55,7 +55,11 @@ fn what_is_local_ends(rt: HostRuntime) -> Result<(), Fail> {
         number(book.assign_meaning(257, Plain::Undefined, Scope::Local)),
         None
     );
-    assert_eq!(rt; number(book.close(GroupKind::Brace)), Some(36), "of another kind");
+    assert_eq!(rt;
+        number(book.close(GroupKind::Brace)),
+        Some(36),
+        "of another kind"
+    );
     assert_eq!(rt; u8::from(book.category(37)), 12);
     assert_eq!(rt; number(book.close(GroupKind::Host)), None);
     assert_eq!(rt; u8::from(book.category(37)), 14);

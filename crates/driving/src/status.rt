@@ -2,7 +2,7 @@ ghost use Rattle.std.specs.Prelude.{◌≡◌};
 ghost use Rattle.driving.specs.declared.status.Status.TheVariants.{Normal};
 
 // What reading is for at present: a step on its own, a macro's arguments, a definition, or a part that is skipped.
-#[derive(Clone, Copy)]
+#[derive(Clone, Copy, Debug, PartialEq, Eq)]
 pub enum Status {
     Normal,
     Matching,
@@ -11,7 +11,7 @@ pub enum Status {
 }
 
 // The record of the scanning status.
-#[derive(Clone, Copy)]
+#[derive(Clone, Copy, Debug, PartialEq, Eq)]
 pub struct Scan {
     pub status: Status,
 }

@@ -15,8 +15,7 @@ pub fn needed<S: Source>(
     ensures takes { Takes categories.now (stream categories.now (listed names.old) (S.Source.ahead source.old)) (S.Source.place source.new) result (listed names.new) (S.Source.ahead source.new) }
     ensures reads { S.Source.reads categories.now (listed names.old) source.old source.new }
 {
-    match source.read(categories, names)? {
-        Some(token) => Ok(token),
-        None => Err(PileFault::Pile(PileRefusal::Ended, source.place())),
-    }
+    source
+        .read(categories, names)?
+        .ok_or_else(|| PileFault::Pile(PileRefusal::Ended, source.place()))
 }

@@ -11,3 +11,7 @@ pub struct Expansion {
     pub(crate) tokens: Vec<Token>,
     ghost room: { 4096 ≤ vec_capacity tokens },
 }
+
+// There are over 4,096 tokens.
+#[derive(Clone, Copy, Debug, PartialEq, Eq)]
+pub struct TooLong;

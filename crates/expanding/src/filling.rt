@@ -1,8 +1,8 @@
-ghost use Rattle.std.specs.Prelude.{◌≡◌, ◌+◌, ◌≤◌, min, [], ◌++◌, length, IfOk, if◌then◌else◌, vec_len, vec_capacity, nat_le};
+ghost use Rattle.std.specs.Prelude.{◌≡◌, ◌≤◌, [], ◌++◌, length, Some, None, Ok, Err, IfOk, if◌then◌else◌, vec_capacity, nat_le};
 ghost use Rattle.matcher.specs.Held.{arguments_of};
 ghost use Rattle.expanding.specs.Substituting.{argument_at, word_tokens, substituted, expansion_of};
 
-use crate::expansion::{EXPANSION_LIMIT, Expansion};
+use crate::expansion::{EXPANSION_LIMIT, Expansion, TooLong};
 use matcher::Arguments;
 use std::alloc::{AllocError, Global};
 use tokens::{BodyWord, Token};
@@ -24,29 +24,14 @@ impl Expansion {
     }
 }
 
-// Puts tokens behind others, where there is room.
-fn append(tokens: &mut Vec<Token>, more: &[Token])
-    requires { vec_len tokens.old + length more.now ≤ vec_capacity tokens.old }
-    ensures items { tokens.new.items ≡ tokens.old.items ++ more.now }
-    ensures len { vec_len tokens.new ≡ vec_len tokens.old + length more.now }
-    ensures capacity { vec_capacity tokens.new ≡ vec_capacity tokens.old }
-{
-    'more: for token in more {
-        tokens.push_reserved(*token);
-    }
-}
-
 // The tokens of a reference's argument.
 fn referred(arguments: &Arguments, reference: u8) -> &[Token]
     ensures { result.now ≡ argument_at (arguments_of arguments.now) reference }
 {
-    if reference == 0 {
-        return &[];
-    }
-    match arguments.get(reference as usize - 1) {
-        Some(tokens) => tokens,
-        None => &[],
-    }
+    reference
+        .checked_sub(1)
+        .and_then(|before| arguments.get(before as usize))
+        .unwrap_or(&[])
 }
 
 fn word_length(arguments: &Arguments, word: BodyWord) -> usize
@@ -58,46 +43,44 @@ fn word_length(arguments: &Arguments, word: BodyWord) -> usize
     }
 }
 
-// How many tokens a body gives with these arguments; 4,097 where there are more.
-pub fn expansion_length(arguments: &Arguments, body: &[BodyWord]) -> usize
-    ensures { result ≡ min (length (substituted (arguments_of arguments.now) body.now)) 4097 }
+// How many tokens a body gives with these arguments; none where there are more than 4,096.
+pub fn expansion_length(arguments: &Arguments, body: &[BodyWord]) -> Option<usize>
+    ensures { result ≡ (if nat_le (length (substituted (arguments_of arguments.now) body.now)) 4096 then Some (length (substituted (arguments_of arguments.now) body.now)) else None) }
 {
-    let mut count = 0;
+    let mut count = 0usize;
     'body: for word in body {
-        let more = word_length(arguments, *word);
-        if more > EXPANSION_LIMIT - count {
-            return EXPANSION_LIMIT + 1;
-        }
-        count += more;
+        count = count
+            .checked_add(word_length(arguments, *word))
+            .filter(|count| *count <= EXPANSION_LIMIT)?;
     }
-    count
+    Some(count)
 }
 
 fn fill(arguments: &Arguments, body: &[BodyWord], tokens: &mut Vec<Token>)
     requires empty { tokens.old.items ≡ [] }
     requires fits { length (substituted (arguments_of arguments.now) body.now) ≤ vec_capacity tokens.old }
     ensures items { tokens.new.items ≡ substituted (arguments_of arguments.now) body.now }
-    ensures capacity { vec_capacity tokens.new ≡ vec_capacity tokens.old }
+    ensures capacity { vec_capacity tokens.old ≤ vec_capacity tokens.new }
 {
     'body: for word in body {
         match *word {
             BodyWord::Token(token) => tokens.push_reserved(token),
-            BodyWord::Reference(reference) => append(tokens, referred(arguments, reference)),
+            BodyWord::Reference(reference) => {
+                let _ = tokens.extend_from_slice(referred(arguments, reference));
+            }
         }
     }
 }
 
 impl Expansion {
-    // Writes the tokens that a body gives with these arguments, and tells whether they fit; where they do not, none are written.
-    pub fn substitute(&mut self, arguments: &Arguments, body: &[BodyWord]) -> bool
-        ensures answer { result ≡ nat_le (length (substituted (arguments_of arguments.now) body.now)) 4096 }
+    // Writes the tokens that a body gives with these arguments; where they do not fit, none are written.
+    pub fn substitute(&mut self, arguments: &Arguments, body: &[BodyWord]) -> Result<(), TooLong>
+        ensures answer { result ≡ (if nat_le (length (substituted (arguments_of arguments.now) body.now)) 4096 then Ok tt else Err (record {})) }
         ensures tokens { expansion_of self.new ≡ (if nat_le (length (substituted (arguments_of arguments.now) body.now)) 4096 then substituted (arguments_of arguments.now) body.now else []) }
     {
         self.tokens.clear();
-        if expansion_length(arguments, body) > EXPANSION_LIMIT {
-            return false;
-        }
+        expansion_length(arguments, body).ok_or(TooLong)?;
         fill(arguments, body, &mut self.tokens);
-        true
+        Ok(())
     }
 }

@@ -4,5 +4,5 @@
 mod expansion;
 mod filling;
 
-pub use expansion::Expansion;
+pub use expansion::{Expansion, TooLong};
 pub use filling::expansion_length;

@@ -20,7 +20,7 @@ impl<S: Source> Gullet<S> {
             return Err(self.refusal(GulletRefusal::TasksFull));
         }
         let token = fed(&mut self.source, &self.book, &mut self.names, &One, ())?;
-        let _ = self.tasks.push(Task::After(token));
+        let _ = self.tasks.start(Task::After(token));
         Ok(Answer::Working)
     }
 }

@@ -8,7 +8,8 @@ ghost use Rattle.matcher.specs.Held.{arguments_of};
 ghost use Rattle.matcher.specs.Marks.{delimiter_in};
 
 use crate::arguments::Arguments;
-use crate::delimited::{behind, delimited};
+use crate::delimited::delimited;
+use crate::delimiter::Delimiter;
 use crate::groups::is_group;
 use crate::span::Span;
 use crate::terms::Terms;
@@ -16,7 +17,7 @@ use crate::undelimited::undelimited;
 use calls::MatcherCause;
 use names::Names;
 use sources::Source;
-use tokens::{Category, ParameterWord};
+use tokens::Category;
 
 impl Arguments {
     // The tokens from a place on are one more argument.
@@ -40,34 +41,31 @@ impl Arguments {
         ensures tokens { self.new.tokens ≡ self.old.tokens }
         ensures spans { vec_len self.new.spans ≡ vec_len self.old.spans + 1 }
     {
-        if !is_group(behind(self.tokens.as_slice(), from)) {
+        if !is_group(&self.tokens.as_slice()[from..]) {
             return self.keep(from);
         }
         let to = self.tokens.len() - 1;
         self.spans.push_reserved(Span { from: from + 1, to });
     }
 
-    // Reads one more argument, up to the delimiter that some words begin with, of so many tokens; tells how many count for it.
+    // Reads one more argument, up to its delimiter; tells how many count for it.
     pub(crate) fn read<S: Source>(
         &mut self,
         source: &mut S,
         categories: &[Category; 256],
         names: &mut Names,
         terms: Terms,
-        words: &[ParameterWord],
-        width: usize,
+        delimiter: Delimiter<'_>,
     ) -> Result<usize, MatcherCause>
         requires held { vec_len self.old.tokens ≤ terms.counted }
         requires fits { terms.counted + terms.few ≤ 4096 }
-        requires width { width ≡ length (delimiter_in words.now) }
-        requires narrow { width ≤ 2048 }
         requires room { vec_len self.old.spans < 9 }
-        ensures goes { (ds : List (List Read)) → fewest ds ≡ terms.few → MatchResult result (λ n. Leads S.Source.reads S.Source.ahead S.Source.place categories.now terms.long (following (arguments_of self.old) terms.counted (delimiter_in words.now ∷ ds)) (listed names.old) source.old (following (arguments_of self.new) (terms.counted + n) ds) (listed names.new) source.new) (λ f. Fails S.Source.reads S.Source.ahead S.Source.place categories.now terms.long (following (arguments_of self.old) terms.counted (delimiter_in words.now ∷ ds)) (listed names.old) source.old f (listed names.new) source.new) }
+        ensures goes { (ds : List (List Read)) → fewest ds ≡ terms.few → MatchResult result (λ n. Leads S.Source.reads S.Source.ahead S.Source.place categories.now terms.long (following (arguments_of self.old) terms.counted (delimiter_in delimiter.entry.words.now ∷ ds)) (listed names.old) source.old (following (arguments_of self.new) (terms.counted + n) ds) (listed names.new) source.new) (λ f. Fails S.Source.reads S.Source.ahead S.Source.place categories.now terms.long (following (arguments_of self.old) terms.counted (delimiter_in delimiter.entry.words.now ∷ ds)) (listed names.old) source.old f (listed names.new) source.new) }
         ensures fits { IfOk result (λ n. (terms.counted + n + terms.few ≤ 4096) × (vec_len self.new.tokens ≤ terms.counted + n)) }
         ensures spans { OnOk result (vec_len self.new.spans ≡ vec_len self.old.spans + 1) }
     {
         let start = self.tokens.len();
-        if width == 0 {
+        if delimiter.words.is_empty() {
             let count = undelimited(source, categories, names, terms, &mut self.tokens)?;
             self.keep(start);
             return Ok(count);
@@ -77,8 +75,7 @@ impl Arguments {
             categories,
             names,
             terms,
-            words,
-            width,
+            delimiter,
             &mut self.tokens,
         )?;
         self.keep_stripped(start);

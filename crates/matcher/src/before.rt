@@ -1,9 +1,11 @@
-ghost use Rattle.std.specs.Prelude.{◌≡◌, ◌≤◌, Bool, [], length, drop, IfOk, MatchResult};
+ghost use Rattle.std.specs.Prelude.{◌≡◌, Bool, List, [], MatchResult};
+ghost use Rattle.tokens.specs.declared.token.Token.{Token};
 ghost use Rattle.names.specs.Spelled.{listed};
-ghost use Rattle.matching.specs.Dividing.{parameters_of};
-ghost use Rattle.matching.specs.Matching.{begin, following};
+ghost use Rattle.matching.specs.Matching.{awaiting, following};
 ghost use Rattle.matcher.specs.Going.{Leads, Fails};
+ghost use Rattle.matcher.specs.Marks.{delimiter_in};
 
+use crate::delimiter::Delimiter;
 use calls::MatcherCause;
 use driving::needed;
 use matching::MatcherRefusal;
@@ -11,26 +13,20 @@ use names::Names;
 use sources::Source;
 use tokens::{Category, ParameterWord};
 
-// Reads the text before the first parameter, and tells where that parameter stands among the words, or where they end.
+// Reads the text before the first parameter.
 pub(crate) fn text_before<S: Source>(
     source: &mut S,
     categories: &[Category; 256],
     names: &mut Names,
-    words: &[ParameterWord],
-) -> Result<usize, MatcherCause>
-    ensures goes { (long : Bool) → MatchResult result (λ k. Leads S.Source.reads S.Source.ahead S.Source.place categories.now long (begin (parameters_of words.now)) (listed names.old) source.old (following [] 0 (parameters_of (drop k words.now)).delimiters) (listed names.new) source.new) (λ f. Fails S.Source.reads S.Source.ahead S.Source.place categories.now long (begin (parameters_of words.now)) (listed names.old) source.old f (listed names.new) source.new) }
-    ensures at { IfOk result (λ k. (k ≤ length words.now) × ((parameters_of (drop k words.now)).before ≡ [])) }
+    before: Delimiter<'_>,
+) -> Result<(), MatcherCause>
+    ensures { (long : Bool) (ds : List (List Token)) → MatchResult result (λ _. Leads S.Source.reads S.Source.ahead S.Source.place categories.now long (awaiting (delimiter_in before.entry.words.now) ds) (listed names.old) source.old (following [] 0 ds) (listed names.new) source.new) (λ f. Fails S.Source.reads S.Source.ahead S.Source.place categories.now long (awaiting (delimiter_in before.entry.words.now) ds) (listed names.old) source.old f (listed names.new) source.new) }
 {
-    let mut at = 0;
-    'words: while at < words.len() {
-        let ParameterWord::Token(wanted) = words[at] else {
-            return Ok(at);
-        };
+    'words: for word in before.words {
         let token = needed(source, categories, names)?;
-        if wanted != token {
+        if *word != ParameterWord::Token(token) {
             return Err(MatcherCause::Matcher(MatcherRefusal::Differs, source.place()));
         }
-        at += 1;
     }
-    Ok(at)
+    Ok(())
 }

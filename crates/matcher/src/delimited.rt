@@ -6,6 +6,7 @@ ghost use Rattle.matcher.specs.Going.{Leads, Fails};
 ghost use Rattle.matcher.specs.Hindering.{Under};
 ghost use Rattle.matcher.specs.Marks.{delimiter_in};
 
+use crate::delimiter::Delimiter;
 use crate::depths::hindrance;
 use crate::mark::Mark;
 use crate::settling::settle;
@@ -15,38 +16,29 @@ use driving::needed;
 use matching::MatcherRefusal;
 use names::Names;
 use sources::Source;
-use tokens::{Category, ParameterWord, Token};
+use tokens::{Category, Token};
 
-pub(crate) fn behind(tokens: &[Token], start: usize) -> &[Token]
-    requires { start ≤ length tokens.now }
-    ensures { result.now ≡ drop start tokens.now }
-{
-    &tokens[start..]
-}
-
-// Reads an argument up to the delimiter that some words begin with, of so many tokens, and keeps the argument's tokens, with the
-// braces of a group; tells how many there are.
+// Reads an argument up to its delimiter, and keeps its tokens, with the braces of a group; tells how many there are.
 pub(crate) fn delimited<S: Source>(
     source: &mut S,
     categories: &[Category; 256],
     names: &mut Names,
     terms: Terms,
-    words: &[ParameterWord],
-    width: usize,
+    delimiter: Delimiter<'_>,
     tokens: &mut Vec<Token>,
 ) -> Result<usize, MatcherCause>
     requires held { vec_len tokens.old ≤ terms.counted }
     requires fits { terms.counted + terms.few ≤ 4096 }
     requires room { 6145 ≤ vec_capacity tokens.old }
-    requires width { width ≡ length (delimiter_in words.now) }
-    requires wide { (1 ≤ width) × (width ≤ 2048) }
-    ensures goes { (p : Progress) → Under terms p → MatchResult result (λ n. Leads S.Source.reads S.Source.ahead S.Source.place categories.now terms.long (on (in_run p (delimiter_in words.now) [])) (listed names.old) source.old (ended p (stripped (drop (vec_len tokens.old) tokens.new.items)) n) (listed names.new) source.new) (λ f. Fails S.Source.reads S.Source.ahead S.Source.place categories.now terms.long (on (in_run p (delimiter_in words.now) [])) (listed names.old) source.old f (listed names.new) source.new) }
+    requires some { 1 ≤ length delimiter.words.now }
+    ensures goes { (p : Progress) → Under terms p → MatchResult result (λ n. Leads S.Source.reads S.Source.ahead S.Source.place categories.now terms.long (on (in_run p (delimiter_in delimiter.entry.words.now) [])) (listed names.old) source.old (ended p (stripped (drop (vec_len tokens.old) tokens.new.items)) n) (listed names.new) source.new) (λ f. Fails S.Source.reads S.Source.ahead S.Source.place categories.now terms.long (on (in_run p (delimiter_in delimiter.entry.words.now) [])) (listed names.old) source.old f (listed names.new) source.new) }
     ensures fits { IfOk result (λ n. (terms.counted + n + terms.few ≤ 4096) × (vec_len tokens.new ≡ vec_len tokens.old + n)) }
     ensures kept { take (vec_len tokens.old) tokens.new.items ≡ tokens.old.items }
     ensures grown { vec_len tokens.old ≤ vec_len tokens.new }
     ensures capacity { vec_capacity tokens.new ≡ vec_capacity tokens.old }
 {
     let start = tokens.len();
+    let width = delimiter.words.len();
     let mut at = 0;
     let mut depth = 0;
     'run: loop {
@@ -57,7 +49,7 @@ pub(crate) fn delimited<S: Source>(
             depth,
             par: false,
         };
-        let Some(next) = settle(behind(tokens.as_slice(), start), words, mark) else {
+        let Some(next) = settle(&tokens.as_slice()[start..], delimiter, mark) else {
             return Err(MatcherCause::Matcher(MatcherRefusal::Unmatched, source.place()));
         };
         let count = terms.counted + (next.at + next.depth) + terms.few;

@@ -9,7 +9,7 @@ ghost use Rattle.matcher.specs.Held.{arguments_of};
 use crate::arguments::Arguments;
 use crate::before::text_before;
 use crate::terms::Terms;
-use crate::words::{delimiter_length, undelimited_from, words_from};
+use crate::words::{delimiter_at, undelimited_in};
 use calls::MatcherCause;
 use names::Names;
 use sources::Source;
@@ -29,19 +29,19 @@ pub(crate) fn divide<S: Source>(
     requires few { parameters_in words.now ≤ 9 }
     ensures { MatchResult result (λ _. Leads S.Source.reads S.Source.ahead S.Source.place categories.now long (begin (parameters_of words.now)) (listed names.old) source.old (out (matched (arguments_of arguments.new))) (listed names.new) source.new) (λ f. Fails S.Source.reads S.Source.ahead S.Source.place categories.now long (begin (parameters_of words.now)) (listed names.old) source.old f (listed names.new) source.new) }
 {
-    let mut at = text_before(source, categories, names, words)?;
+    let before = delimiter_at(words);
+    text_before(source, categories, names, before)?;
+    let mut rest = &words[before.words.len()..];
     let mut counted = 0;
-    'parameters: while at < words.len() {
-        let rest = words_from(words, at + 1);
-        let width = delimiter_length(rest);
-        at += 1 + width;
+    'parameters: while let Some((_, behind)) = rest.split_first() {
+        let delimiter = delimiter_at(behind);
+        rest = &behind[delimiter.words.len()..];
         let terms = Terms {
             long,
             counted,
-            few: undelimited_from(words, at),
+            few: undelimited_in(rest),
         };
-        let count = arguments.read(source, categories, names, terms, rest, width)?;
-        counted += count;
+        counted += arguments.read(source, categories, names, terms, delimiter)?;
     }
     Ok(())
 }

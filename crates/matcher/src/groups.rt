@@ -1,23 +1,21 @@
 ghost use Rattle.std.specs.Prelude.{◌≡◌, ◌≤◌, length};
-ghost use Rattle.matching.specs.Braces.{is_balanced};
+ghost use Rattle.matching.specs.Braces.{deeper};
 ghost use Rattle.matching.specs.Dividing.{is_group};
 
 use crate::depths::passed;
 use driving::{is_close, is_open};
 use tokens::Token;
 
-fn is_balanced(tokens: &[Token]) -> bool
+// The depth of braces behind tokens; none where one closes that was not opened.
+fn deeper(tokens: &[Token]) -> Option<usize>
     requires { length tokens.now ≤ 6145 }
-    ensures { result ≡ is_balanced tokens.now }
+    ensures { result ≡ deeper 0 tokens.now }
 {
     let mut depth = 0;
     'tokens: for token in tokens {
-        let Some(deeper) = passed(depth, *token) else {
-            return false;
-        };
-        depth = deeper;
+        depth = passed(depth, *token)?;
     }
-    depth == 0
+    Some(depth)
 }
 
 // Whether tokens are one group: an opening brace, balanced tokens, a closing brace.
@@ -25,16 +23,10 @@ pub(crate) fn is_group(tokens: &[Token]) -> bool
     requires { length tokens.now ≤ 6145 }
     ensures { result ≡ is_group tokens.now }
 {
-    let count = tokens.len();
-    if count < 2 {
-        return false;
+    match tokens {
+        [first, middle @ .., last] => {
+            is_open(*first) && is_close(*last) && deeper(middle) == Some(0)
+        }
+        _ => false,
     }
-    let last = count - 1;
-    if !is_open(tokens[0]) {
-        return false;
-    }
-    if !is_close(tokens[last]) {
-        return false;
-    }
-    is_balanced(&tokens[1..last])
 }

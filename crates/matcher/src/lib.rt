@@ -6,6 +6,7 @@ mod arguments;
 mod before;
 mod calling;
 mod delimited;
+mod delimiter;
 mod depths;
 mod dividing;
 mod groups;
@@ -22,4 +23,4 @@ mod words;
 
 pub use arguments::Arguments;
 pub use calling::matched;
-pub use text::ParameterText;
+pub use text::{NoText, ParameterText};

@@ -3,22 +3,17 @@ ghost use Rattle.matching.specs.Braces.{deeper};
 ghost use Rattle.matching.specs.Matching.{settled_from};
 ghost use Rattle.matcher.specs.Marks.{delimiter_in, begins, Marked, moved};
 
+use crate::delimiter::Delimiter;
 use crate::depths::passed;
 use crate::mark::Mark;
 use crate::tests::is_par;
 use tokens::{ParameterWord, Token};
 
-// Whether a token stands at a place of the delimiter that some words begin with.
-fn stands(words: &[ParameterWord], place: usize, token: Token) -> bool
-    ensures { result ≡ begins token (delimiter_in (drop place words.now)) }
+// Whether a token stands at a place of a delimiter.
+fn stands(delimiter: Delimiter<'_>, place: usize, token: Token) -> bool
+    ensures { result ≡ begins token (delimiter_in (drop place delimiter.entry.words.now)) }
 {
-    if place >= words.len() {
-        return false;
-    }
-    match words[place] {
-        ParameterWord::Token(wanted) => token == wanted,
-        ParameterWord::Parameter => false,
-    }
+    delimiter.words.get(place) == Some(&ParameterWord::Token(token))
 }
 
 impl Mark {
@@ -37,16 +32,15 @@ impl Mark {
 }
 
 // Moves a place on to the first one behind which all tokens begin the delimiter outside braces, or none are left.
-pub(crate) fn settle(run: &[Token], words: &[ParameterWord], from: Mark) -> Option<Mark>
+pub(crate) fn settle(run: &[Token], delimiter: Delimiter<'_>, from: Mark) -> Option<Mark>
     requires marked { Marked run.now from.at from }
     requires short { length run.now ≤ 6145 }
-    ensures { MatchOption result (deeper 0 (settled_from (delimiter_in words.now) (take from.at run.now) (drop from.at run.now)) ≡ None) (λ m. Marked run.now from.at m × (settled_from (delimiter_in words.now) (take from.at run.now) (drop from.at run.now) ≡ take m.at run.now)) }
+    ensures { MatchOption result (deeper 0 (settled_from (delimiter_in delimiter.entry.words.now) (take from.at run.now) (drop from.at run.now)) ≡ None) (λ m. Marked run.now from.at m × (settled_from (delimiter_in delimiter.entry.words.now) (take from.at run.now) (drop from.at run.now) ≡ take m.at run.now)) }
 {
     let mut mark = from;
     let found = 'place: loop {
-        let behind = run.len() - mark.at;
-        'delimiter: for j in 0..behind {
-            if mark.depth > 0 || !stands(words, j, run[mark.at + j]) {
+        'delimiter: for (place, token) in run[mark.at..].iter().enumerate() {
+            if mark.depth > 0 || !stands(delimiter, place, *token) {
                 let Some(next) = mark.moved(run[mark.at]) else {
                     break 'place None;
                 };

@@ -17,3 +17,7 @@ pub struct ParameterText<'a> {
     ghost few: { parameters_in words.now ≤ 9 },
     ghost plain: { has_closing words.now ≡ false },
 }
+
+// Words are not a parameter text that a macro may have.
+#[derive(Clone, Copy, Debug, PartialEq, Eq)]
+pub struct NoText;

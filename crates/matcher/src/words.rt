@@ -1,63 +1,46 @@
-ghost use Rattle.std.specs.Prelude.{◌≡◌, ◌≤◌, [], length, drop};
+ghost use Rattle.std.specs.Prelude.{◌≡◌, ◌≤◌, length, take};
+ghost use Rattle.std.specs.List.{prefix_len};
 ghost use Rattle.matching.specs.Dividing.{parameters_of};
-ghost use Rattle.matching.specs.Laws.{parameters_in};
 ghost use Rattle.matching.specs.Matching.{fewest};
 ghost use Rattle.matcher.specs.Marks.{delimiter_in};
-ghost use Rattle.matcher.specs.Words.{is_none};
+ghost use Rattle.matcher.specs.Words.{is_token};
 
+use crate::delimiter::Delimiter;
 use tokens::ParameterWord;
 
 // How many tokens stand before the next parameter.
-pub(crate) fn delimiter_length(words: &[ParameterWord]) -> usize
-    ensures value { result ≡ length (delimiter_in words.now) }
-    ensures within { result ≤ length words.now }
-    ensures ends { delimiter_in (drop result words.now) ≡ [] }
-    ensures later { (parameters_of (drop result words.now)).delimiters ≡ (parameters_of words.now).delimiters }
-    ensures parameters { parameters_in (drop result words.now) ≡ parameters_in words.now }
+fn tokens_at(words: &[ParameterWord]) -> usize
+    ensures { result ≡ prefix_len is_token words.now }
 {
-    let mut at = 0;
-    'words: while at < words.len() {
-        if let ParameterWord::Parameter = words[at] {
-            return at;
-        }
-        at += 1;
-    }
-    at
+    words
+        .iter()
+        .take_while(|word| matches!(word, ParameterWord::Token(_)))
+        .count()
 }
 
-// Whether no token stands at a place.
-fn bare(words: &[ParameterWord], place: usize) -> bool
-    ensures { result ≡ is_none (delimiter_in (drop place words.now)) }
+// The tokens before the next parameter.
+pub(crate) fn delimiter_at(words: &[ParameterWord]) -> Delimiter<'_>
+    requires { length words.now ≤ 2048 }
+    ensures { result.words.now ≡ take (length (delimiter_in words.now)) words.now }
 {
-    if place >= words.len() {
-        return true;
-    }
-    match words[place] {
-        ParameterWord::Token(_) => false,
-        ParameterWord::Parameter => true,
+    Delimiter {
+        words: &words[..tokens_at(words)],
     }
 }
 
-// How many of the parameters, from a place on, are undelimited.
-pub(crate) fn undelimited_from(words: &[ParameterWord], place: usize) -> usize
-    requires { place ≤ length words.now }
-    ensures value { result ≡ fewest (parameters_of (drop place words.now)).delimiters }
-    ensures bound { result ≤ length words.now }
+// How many of the parameters are undelimited.
+pub(crate) fn undelimited_in(words: &[ParameterWord]) -> usize
+    ensures { result ≡ fewest (parameters_of words.now).delimiters }
 {
     let mut count = 0;
-    'words: for at in place..words.len() {
-        if let ParameterWord::Parameter = words[at] {
-            if bare(words, at + 1) {
-                count += 1;
-            }
+    let mut rest = words;
+    'words: while let Some((word, behind)) = rest.split_first() {
+        if *word == ParameterWord::Parameter
+            && !matches!(behind.first(), Some(ParameterWord::Token(_)))
+        {
+            count += 1;
         }
+        rest = behind;
     }
     count
-}
-
-pub(crate) fn words_from(words: &[ParameterWord], place: usize) -> &[ParameterWord]
-    requires { place ≤ length words.now }
-    ensures { result.now ≡ drop place words.now }
-{
-    &words[place..]
 }

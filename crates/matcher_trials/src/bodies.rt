@@ -1,6 +1,6 @@
 use crate::trying::{Trial, text};
-use driving::{Scan, Status};
-use expanding::{Expansion, expansion_length};
+use driving::Scan;
+use expanding::{Expansion, TooLong, expansion_length};
 use matcher::{Arguments, ParameterText, matched};
 use names::Names;
 use std::alloc::Global;
@@ -11,9 +11,7 @@ use tokens::{BodyWord, Category, ParameterWord, Token, TokenCategory};
 fn two(heap: Global) -> Result<Arguments, Trial> {
     let mut names = Names::new(heap)?;
     let mut arguments = Arguments::new(heap)?;
-    let mut scan = Scan {
-        status: Status::Normal,
-    };
+    let mut scan = Scan::new();
     let mut source = text(heap, b"{ab}{}")?;
     let words = [ParameterWord::Parameter, ParameterWord::Parameter];
     let _ = matched(
@@ -43,8 +41,8 @@ fn references(rt: HostRuntime) -> Result<(), Fail> {
         BodyWord::Reference(0),
         BodyWord::Reference(1),
     ];
-    assert_eq!(rt; expansion_length(&arguments, &body), 5);
-    assert!(rt; expansion.substitute(&arguments, &body));
+    assert_eq!(rt; expansion_length(&arguments, &body), Some(5));
+    assert_eq!(rt; expansion.substitute(&arguments, &body), Ok(()));
     assert_eq!(rt; expansion.tokens().len(), 5);
     Ok(())
 }
@@ -55,12 +53,15 @@ fn too_long(rt: HostRuntime) -> Result<(), Fail> {
     let arguments = two(heap)?;
     let mut expansion = Expansion::new(heap)?;
     let mut body = vec![in heap; BodyWord::Reference(1); 2_048]?;
-    assert_eq!(rt; expansion_length(&arguments, body.as_slice()), 4_096);
-    assert!(rt; expansion.substitute(&arguments, body.as_slice()));
+    assert_eq!(rt; expansion_length(&arguments, body.as_slice()), Some(4_096));
+    assert_eq!(rt; expansion.substitute(&arguments, body.as_slice()), Ok(()));
     assert_eq!(rt; expansion.tokens().len(), 4_096);
     body.push(BodyWord::Reference(1))?;
-    assert_eq!(rt; expansion_length(&arguments, body.as_slice()), 4_097);
-    assert!(rt; !expansion.substitute(&arguments, body.as_slice()));
+    assert_eq!(rt; expansion_length(&arguments, body.as_slice()), None);
+    assert_eq!(rt;
+        expansion.substitute(&arguments, body.as_slice()),
+        Err(TooLong)
+    );
     assert_eq!(rt; expansion.tokens().len(), 0);
     Ok(())
 }

@@ -1,5 +1,5 @@
 use crate::trying::{Trial, text, tried};
-use driving::{Scan, Status};
+use driving::Scan;
 use matcher::{Arguments, ParameterText, matched};
 use names::Names;
 use piles::PutBack;
@@ -12,19 +12,15 @@ use tokens::{Category, ParameterWord, Token, TokenCategory};
 fn letters(heap: Global, count: usize, bytes: &[u8]) -> Result<PutBack<Text>, Trial> {
     let mut pile = PutBack::new(heap, text(heap, bytes)?)?;
     let tokens = vec![in heap; Token::Character(TokenCategory::Letter, b'a'); count]?;
-    match pile.put_back(tokens.as_slice()) {
-        Ok(()) => Ok(pile),
-        Err(_) => Err(Trial::NoText),
-    }
+    pile.put_back(tokens.as_slice()).map_err(|_| Trial::NoText)?;
+    Ok(pile)
 }
 
-// How many tokens the one argument has that is read up to an x; 0 where there is none.
-fn counted(heap: Global, source: &mut PutBack<Text>) -> Result<usize, Trial> {
+// How many tokens the one argument has that is read up to an x, if there is one.
+fn counted(heap: Global, source: &mut PutBack<Text>) -> Result<Option<usize>, Trial> {
     let mut names = Names::new(heap)?;
     let mut arguments = Arguments::new(heap)?;
-    let mut scan = Scan {
-        status: Status::Normal,
-    };
+    let mut scan = Scan::new();
     let words = [
         ParameterWord::Parameter,
         ParameterWord::Token(Token::Character(TokenCategory::Letter, b'x')),
@@ -38,20 +34,17 @@ fn counted(heap: Global, source: &mut PutBack<Text>) -> Result<usize, Trial> {
         ParameterText::of(&words),
         &mut arguments,
     );
-    match answer {
-        Ok(()) => match arguments.get(0) {
-            Some(tokens) => Ok(tokens.len()),
-            None => Ok(0),
-        },
-        Err(_) => Ok(0),
+    if answer.is_err() {
+        return Ok(None);
     }
+    Ok(arguments.get(0).map(|tokens| tokens.len()))
 }
 
 #[test]
 fn as_many_as_may_be(rt: HostRuntime) -> Result<(), Fail> {
     let heap = rt.alloc();
     let mut most = letters(heap, 4_096, b"x")?;
-    assert_eq!(rt; counted(heap, &mut most)?, 4_096);
+    assert_eq!(rt; counted(heap, &mut most)?, Some(4_096));
     let mut over = letters(heap, 4_096, b"ax")?;
     assert_eq!(rt;
         tried(heap, &mut over, false, b"#x")?.as_str(),
@@ -75,7 +68,7 @@ fn a_group(rt: HostRuntime) -> Result<(), Fail> {
     assert!(rt; most.put_back(&open).is_ok());
     assert_eq!(rt;
         counted(heap, &mut most)?,
-        4_094,
+        Some(4_094),
         "its braces count, and are stripped"
     );
     let mut over = letters(heap, 4_095, b"}x")?;

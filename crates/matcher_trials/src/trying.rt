@@ -19,12 +19,17 @@ impl From<AllocError> for Trial {
     }
 }
 
-pub(crate) fn text(heap: Global, bytes: &[u8]) -> Result<Text, Trial> {
-    match Text::new(heap, bytes.to_vec(heap)?) {
-        Ok(text) => Ok(text),
-        Err(MakeFault::NoMemory) => Err(Trial::NoMemory),
-        Err(MakeFault::Refused(_)) => Err(Trial::NoText),
+impl From<MakeFault> for Trial {
+    fn from(fault: MakeFault) -> Trial {
+        match fault {
+            MakeFault::NoMemory => Trial::NoMemory,
+            MakeFault::Refused(_) => Trial::NoText,
+        }
     }
+}
+
+pub(crate) fn text(heap: Global, bytes: &[u8]) -> Result<Text, Trial> {
+    Ok(Text::new(heap, bytes.to_vec(heap)?)?)
 }
 
 // A parameter text by bytes: # for a parameter, $ for the name 257, and other bytes for characters.
@@ -87,12 +92,7 @@ pub(crate) fn tried<S: Source>(
 ) -> Result<String, Trial> {
     let table = Category::first_table();
     let mut names = Names::new(heap)?;
-    let mut words = Vec::new(heap);
-    for byte in parameters {
-        if words.push(word(*byte)).is_err() {
-            return Err(Trial::NoMemory);
-        }
-    }
+    let words: Vec<ParameterWord> = parameters.iter().map(|byte| word(*byte)).collect(heap)?;
     let mut arguments = Arguments::new(heap)?;
     let mut scan = Scan {
         status: Status::Defining,
@@ -107,13 +107,13 @@ pub(crate) fn tried<S: Source>(
         parameters,
         &mut arguments,
     );
-    let Status::Defining = scan.status else {
+    if scan.status != Status::Defining {
         return Err(Trial::NoText);
-    };
-    match answer {
-        Ok(()) => Ok(written(heap, &arguments)?),
-        Err(fault) => Ok(written_fault(heap, fault)?),
     }
+    Ok(match answer {
+        Ok(()) => written(heap, &arguments)?,
+        Err(fault) => written_fault(heap, fault)?,
+    })
 }
 
 pub(crate) fn tried_text(

@@ -2,7 +2,7 @@ ghost use Rattle.std.specs.Prelude.{◌≡◌};
 ghost use Rattle.matching.specs.Refusals.{refusal_number};
 
 // Why a macro's call has no arguments, with the number that the rules give it.
-#[derive(Clone, Copy)]
+#[derive(Clone, Copy, Debug, PartialEq, Eq)]
 pub enum MatcherRefusal {
     // A token differs from the text before the first parameter.
     Differs = 22,

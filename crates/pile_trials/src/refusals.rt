@@ -60,7 +60,10 @@ fn words_of_no_token(rt: HostRuntime) -> Result<(), Fail> {
         assert_eq!(rt; inserted(&mut pile, &[0xb000_0061, word], &names), Some(38));
         assert_eq!(rt; pile.held(), 0);
     }
-    assert_eq!(rt; inserted(&mut pile, &[0, 255, 256, taken - 1], &names), None);
+    assert_eq!(rt;
+        inserted(&mut pile, &[0, 255, 256, taken - 1], &names),
+        None
+    );
     assert_eq!(rt; pile.held(), 4);
     Ok(())
 }

@@ -1,11 +1,12 @@
 -- A text's lines, one more begun.
 use Rattle.std.proofs.Common.{◌≡◌, ℕ, ◌+◌, ◌-◌, ◌<◌, ◌≤◌, eqb, ◌⊎◌, List, [], ◌∷◌, length, get_or, take, drop, sym, refl, ap, ◌∙◌, inl, inr, add-one, arith}
-use Rattle.std.proofs.lemmas.List.{drop_more, drop_all, drop-drop, take_rest, length-drop, length-map, length_push}
+use Rattle.std.proofs.lemmas.List.{drop_more, drop_all, drop-drop, take_rest, length-drop, length-map}
 use Rattle.std.proofs.lemmas.Bool.{cases_lt, cond_both}
 use Rattle.lines.specs.declared.piece.LineState.{LineState}
 use Rattle.lines.specs.declared.piece.LineState.TheVariants.{NewLine}
 use Rattle.lines.specs.Line.{Item, rest, left}
-use Rattle.sources.specs.Texts.{with_first, lines_of, first_line, after_line, trimmed, made, made_lines, whole, Begun}
+use Rattle.sources.specs.Texts.{with_first, lines_of, first_line, after_line, made, made_lines, whole, Begun}
+use Rattle.sources.specs.Placing.{made_line as made_some}
 use Rattle.sources.proofs.Splits.{made_first}
 
 -- a list that is not used up at n goes on with its element there
@@ -28,10 +29,6 @@ lines_count (b ∷ bs) =
 
 pub lines_within : (bs : List ℕ) → length (made_lines bs) ≤ length bs
 lines_within bs = omega (arith, length-map (lines_of bs) made, lines_count bs)
-
--- a made line is not empty
-pub made_some : (l : List ℕ) → 0 < length (made l)
-made_some l = omega (arith, length_push (trimmed l) 13)
 
 pub left_some : (s : LineState) (bs : List ℕ) (below : List Item) → 0 < length bs → left s bs below ≡ rest s bs ∷ below
 left_some s [] below h = absurd (omega arith)

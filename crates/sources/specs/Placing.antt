@@ -39,7 +39,7 @@ total_split [] k h = absurd (omega arith)
 total_split (l ∷ ls) zero h = omega arith
 total_split (l ∷ ls) (suc k) h = omega (arith, total_split ls k (omega arith))
 
-made_line : (l : List ℕ) → 0 < length (made l)
+pub made_line : (l : List ℕ) → 0 < length (made l)
 made_line l = omega (arith, length_push (trimmed l) 13)
 
 -- every line is made with byte 13 at its end, so none is empty

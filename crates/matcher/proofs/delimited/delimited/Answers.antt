@@ -1,5 +1,5 @@
 use Rattle.std.proofs.Common.{◌≡◌, ℕ, ◌+◌, ◌-◌, ◌≤◌, true, false, eqb, List, [], ◌∷◌, ◌++◌, length, take, drop, Some, None, vec_items, vec_len, sym, refl, ap, ◌∙◌, subst, arith}
-use Rattle.std.proofs.lemmas.List.{length_push, drop-take, take-take}
+use Rattle.std.proofs.lemmas.List.{length_push, drop-take, take-take, take_rest}
 use Rattle.std.proofs.lemmas.Result.{err_from_is_err_and}
 use Rattle.std.proofs.lemmas.Bool.{cond-true, cond-false, eq-eqb, ne_eqb}
 use Rattle.tokens.specs.declared.token.Token.{Token}
@@ -27,7 +27,7 @@ run-init g c =
     let v = c.args.tokens.now in
     let none = none_from v c.len-start.result c.len-start.ensures in
     let long = c.args.terms.long in
-    let d = delimiter_in c.args.words.now in (
+    let d = delimiter_in c.args.delimiter.words.now in (
       (λ p u. turned _ _ _ _ long (stay _ _ _ _ long (on (in_run p d [])) _ _) (ap (λ xs. on (in_run p d xs)) (sym none))),
       ap (settled d) none ∙ ap (take 0) (sym none),
       refl,
@@ -35,7 +35,7 @@ run-init g c =
       omega (arith, c.requires.fits),
       omega arith,
       omega (arith, c.len-start.ensures),
-      omega (arith, c.len-start.ensures, c.requires.wide.0),
+      omega (arith, c.len-start.ensures, c.requires.some),
       all_before v c.len-start.result c.len-start.ensures,
       refl,
     )
@@ -48,11 +48,11 @@ settle-requires g c =
     let u = drop start (vec_items v) in
     let t = c.in_ok-token.token in
     let i = c.run.invariant in
-    let e : c.behind.result.now ≡ u ++ t ∷ [] = c.behind.ensures ∙ ap (drop start) c.as_slice.ensures.value ∙ pushed_from v w t start (omega (arith, i.6)) c.push_reserved.ensures.items in
-    let d = delimiter_in c.args.words.now in
+    let e : take (length c.as_slice.result.now - start) (drop start c.as_slice.result.now) ≡ u ++ t ∷ [] = take_rest c.as_slice.result.now start ∙ ap (drop start) c.as_slice.ensures.value ∙ pushed_from v w t start (omega (arith, i.6)) c.push_reserved.ensures.items in
+    let d = delimiter_in c.args.delimiter.words.now in
     record {
-      marked = fresh c.args.terms.long d u t c.behind.result.now e c.run.at c.run.depth (omega (arith, long_from v start, i.6)) i.5 i.1 i.2 i.3;
-      short = omega (arith, ap length e, length_push u t, long_from v start, i.7, i.4, i.6, c.requires.wide.1);
+      marked = fresh c.args.terms.long d u t (take (length c.as_slice.result.now - start) (drop start c.as_slice.result.now)) e c.run.at c.run.depth (omega (arith, long_from v start, i.6)) i.5 i.1 i.2 i.3;
+      short = omega (arith, ap length e, length_push u t, long_from v start, i.7, i.4, i.6, c.args.delimiter.short);
     }
 
 pub returns-in_err-token : goal.returns-in_err-token
@@ -78,9 +78,9 @@ returns-in_default g c =
     let t = c.in_ok-token.token in
     let i = c.run.invariant in
     let long = c.args.terms.long in
-    let d = delimiter_in c.args.words.now in
+    let d = delimiter_in c.args.delimiter.words.now in
     let k = c.in_ok-token.ensures in
-    let b : c.behind.result.now ≡ x = c.behind.ensures ∙ ap (drop start) c.as_slice.ensures.value in
+    let b : take (length c.as_slice.result.now - start) (drop start c.as_slice.result.now) ≡ x = take_rest c.as_slice.result.now start ∙ ap (drop start) c.as_slice.ensures.value in
     let e : x ≡ u ++ t ∷ [] = pushed_from v w t start (omega (arith, i.6)) c.push_reserved.ensures.items in
     let h : c.run.at ≤ length u = omega (arith, long_from v start, i.6) in
     let none : deeper 0 (settled_from d (take c.run.at x) (drop c.run.at x)) ≡ None = subst (λ (z : List Token). deeper 0 (settled_from d (take c.run.at z) (drop c.run.at z)) ≡ None) b c.in_default.ensures in
@@ -103,9 +103,9 @@ returns-in-Some-hindrance g c =
     let t = c.in_ok-token.token in
     let i = c.run.invariant in
     let long = c.args.terms.long in
-    let d = delimiter_in c.args.words.now in
+    let d = delimiter_in c.args.delimiter.words.now in
     let k = c.in_ok-token.ensures in
-    let b : c.behind.result.now ≡ x = c.behind.ensures ∙ ap (drop start) c.as_slice.ensures.value in
+    let b : take (length c.as_slice.result.now - start) (drop start c.as_slice.result.now) ≡ x = take_rest c.as_slice.result.now start ∙ ap (drop start) c.as_slice.ensures.value in
     let e : x ≡ u ++ t ∷ [] = pushed_from v w t start (omega (arith, i.6)) c.push_reserved.ensures.items in
     let h : c.run.at ≤ length u = omega (arith, long_from v start, i.6) in
     let m = c.in-Some.next in
@@ -114,7 +114,7 @@ returns-in-Some-hindrance g c =
     let r = c.in-Some-hindrance.refusal in
     let bad : hindrance long m.par n ≡ Some r = sym c.in-Some-hindrance.ensures in
     record {
-      goes = λ p o. rw c.place-in-Some-hindrance.ensures (refuses _ _ _ _ long r (onward _ _ _ _ long (i.0 p o) (read _ _ _ _ long (in_run p d u) _ _ (listed c.needed.new.names) c.needed.new.source t k.takes k.reads)) (fed_then long d u t x e c.run.at c.run.depth h i.5 i.1 i.2 i.3 m f.0 f.1 p c.args.width n c.requires.width (omega (arith, o.0, o.1)) ∙ ap (by _) bad));
+      goes = λ p o. rw c.place-in-Some-hindrance.ensures (refuses _ _ _ _ long r (onward _ _ _ _ long (i.0 p o) (read _ _ _ _ long (in_run p d u) _ _ (listed c.needed.new.names) c.needed.new.source t k.takes k.reads)) (fed_then long d u t x e c.run.at c.run.depth h i.5 i.1 i.2 i.3 m f.0 f.1 p (length c.args.delimiter.words.now) n (sym c.args.delimiter.tokens) (omega (arith, o.0, o.1)) ∙ ap (by _) bad));
       fits = tt;
       kept = ap (λ (z : ℕ). take z (vec_items w)) (sym c.len-start.ensures) ∙ pushed_before v w t start (omega (arith, i.6)) c.push_reserved.ensures.items ∙ i.8;
       grown = omega (arith, c.len-start.ensures, i.6, c.push_reserved.ensures.len);
@@ -132,9 +132,9 @@ run-preserved g c =
     let t = c.in_ok-token.token in
     let i = c.run.invariant in
     let long = c.args.terms.long in
-    let d = delimiter_in c.args.words.now in
+    let d = delimiter_in c.args.delimiter.words.now in
     let k = c.in_ok-token.ensures in
-    let b : c.behind.result.now ≡ x = c.behind.ensures ∙ ap (drop start) c.as_slice.ensures.value in
+    let b : take (length c.as_slice.result.now - start) (drop start c.as_slice.result.now) ≡ x = take_rest c.as_slice.result.now start ∙ ap (drop start) c.as_slice.ensures.value in
     let e : x ≡ u ++ t ∷ [] = pushed_from v w t start (omega (arith, i.6)) c.push_reserved.ensures.items in
     let h : c.run.at ≤ length u = omega (arith, long_from v start, i.6) in
     let m = c.in-Some.next in
@@ -143,16 +143,16 @@ run-preserved g c =
     let free : hindrance long m.par n ≡ None = sym c.in_default-hindrance.ensures in
     let ok = unhindered long m.par n free in
     let len : length x ≡ vec_len w - start = long_from w start in
-    let other : eqb (length x) (m.at + c.args.width) ≡ false = ne_eqb (length x) (m.at + c.args.width) (λ q. c.if-len-start.false (omega (arith, q, len, c.len.ensures))) in
+    let other : eqb (length x) (m.at + length c.args.delimiter.words.now) ≡ false = ne_eqb (length x) (m.at + length c.args.delimiter.words.now) (λ q. c.if-len-start.false (omega (arith, q, len, c.len.ensures))) in
     let most = pending_then long d u t x e c.run.at c.run.depth h i.5 i.1 i.2 i.3 m f.0 f.1 in (
-      (λ p o. onward _ _ _ _ long (i.0 p o) (turned _ _ _ _ long (read _ _ _ _ long (in_run p d u) _ _ (listed c.needed.new.names) c.needed.new.source t k.takes k.reads) (fed_then long d u t x e c.run.at c.run.depth h i.5 i.1 i.2 i.3 m f.0 f.1 p c.args.width n c.requires.width (omega (arith, o.0, o.1)) ∙ ap (by _) free ∙ cond-false (eqb (length x) (m.at + c.args.width)) _ _ other))),
+      (λ p o. onward _ _ _ _ long (i.0 p o) (turned _ _ _ _ long (read _ _ _ _ long (in_run p d u) _ _ (listed c.needed.new.names) c.needed.new.source t k.takes k.reads) (fed_then long d u t x e c.run.at c.run.depth h i.5 i.1 i.2 i.3 m f.0 f.1 p (length c.args.delimiter.words.now) n (sym c.args.delimiter.tokens) (omega (arith, o.0, o.1)) ∙ ap (by _) free ∙ cond-false (eqb (length x) (m.at + length c.args.delimiter.words.now)) _ _ other))),
       settled_then long d u t x e c.run.at c.run.depth h i.5 i.1 i.2 i.3 m f.0 f.1,
       f.0.deep,
       told_then long d u t x e c.run.at c.run.depth h i.5 i.1 i.2 i.3 m f.0 f.1 ∙ ok.0,
       ok.1,
       f.0.small,
       omega (arith, f.0.within, len, i.6, c.push_reserved.ensures.len),
-      omega (arith, most, len, c.requires.width, i.6, c.push_reserved.ensures.len, (λ (q : ◌≡◌ (c.len.result - start) (m.at + c.args.width)). c.if-len-start.false q), c.len.ensures),
+      omega (arith, most, len, (sym c.args.delimiter.tokens), i.6, c.push_reserved.ensures.len, (λ (q : ◌≡◌ (c.len.result - start) (m.at + length c.args.delimiter.words.now)). c.if-len-start.false q), c.len.ensures),
       pushed_before v w t start (omega (arith, i.6)) c.push_reserved.ensures.items ∙ i.8,
       c.push_reserved.ensures.capacity ∙ i.9,
     )
@@ -168,9 +168,9 @@ returns-then-len-start g c =
     let t = c.in_ok-token.token in
     let i = c.run.invariant in
     let long = c.args.terms.long in
-    let d = delimiter_in c.args.words.now in
+    let d = delimiter_in c.args.delimiter.words.now in
     let k = c.in_ok-token.ensures in
-    let b : c.behind.result.now ≡ x = c.behind.ensures ∙ ap (drop start) c.as_slice.ensures.value in
+    let b : take (length c.as_slice.result.now - start) (drop start c.as_slice.result.now) ≡ x = take_rest c.as_slice.result.now start ∙ ap (drop start) c.as_slice.ensures.value in
     let e : x ≡ u ++ t ∷ [] = pushed_from v w t start (omega (arith, i.6)) c.push_reserved.ensures.items in
     let h : c.run.at ≤ length u = omega (arith, long_from v start, i.6) in
     let m = c.in-Some.next in
@@ -180,11 +180,11 @@ returns-then-len-start g c =
     let free : hindrance long m.par n ≡ None = sym c.in_default-hindrance.ensures in
     let ok = unhindered long m.par n free in
     let len : length x ≡ vec_len w - start = long_from w start in
-    let all : eqb (length x) (m.at + c.args.width) ≡ true = eq-eqb (length x) (m.at + c.args.width) (omega (arith, len, c.if-len-start.true, c.len.ensures)) in
+    let all : eqb (length x) (m.at + length c.args.delimiter.words.now) ≡ true = eq-eqb (length x) (m.at + length c.args.delimiter.words.now) (omega (arith, len, c.if-len-start.true, c.len.ensures)) in
     let cut : take m.at x ≡ drop (vec_len c.args.tokens.now) (vec_items z) = sym (drop-take start m.at (vec_items w)) ∙ ap (drop start) (sym c.truncate.ensures.items) ∙ ap (λ (q : ℕ). drop q (vec_items z)) c.len-start.ensures in
     let short : start + m.at ≤ vec_len w = omega (arith, f.0.within, len, i.6, c.push_reserved.ensures.len) in
     record {
-      goes = λ p o. onward _ _ _ _ long (i.0 p o) (turned _ _ _ _ long (read _ _ _ _ long (in_run p d u) _ _ (listed c.needed.new.names) c.needed.new.source t k.takes k.reads) (fed_then long d u t x e c.run.at c.run.depth h i.5 i.1 i.2 i.3 m f.0 f.1 p c.args.width n c.requires.width (omega (arith, o.0, o.1)) ∙ ap (by _) free ∙ cond-true (eqb (length x) (m.at + c.args.width)) _ _ all ∙ ap (λ (q : List Token). ended p (stripped q) m.at) cut));
+      goes = λ p o. onward _ _ _ _ long (i.0 p o) (turned _ _ _ _ long (read _ _ _ _ long (in_run p d u) _ _ (listed c.needed.new.names) c.needed.new.source t k.takes k.reads) (fed_then long d u t x e c.run.at c.run.depth h i.5 i.1 i.2 i.3 m f.0 f.1 p (length c.args.delimiter.words.now) n (sym c.args.delimiter.tokens) (omega (arith, o.0, o.1)) ∙ ap (by _) free ∙ cond-true (eqb (length x) (m.at + length c.args.delimiter.words.now)) _ _ all ∙ ap (λ (q : List Token). ended p (stripped q) m.at) cut));
       fits = (omega (arith, ok.1), omega (arith, short, c.truncate.ensures.len, c.len-start.ensures));
       kept = ap (λ (q : ℕ). take q (vec_items z)) (sym c.len-start.ensures) ∙ ap (take start) c.truncate.ensures.items ∙ take-take start (start + m.at) (vec_items w) (omega arith) ∙ pushed_before v w t start (omega (arith, i.6)) c.push_reserved.ensures.items ∙ i.8;
       grown = omega (arith, short, c.truncate.ensures.len, c.len-start.ensures);

@@ -12,8 +12,8 @@ use Rattle.matcher.proofs.delimited.delimited.Given as goal
 
 abbrev pub invariant-run : goal.invariant-run
 invariant-run g l =
-    ((p : Progress) → Under l.terms p → Leads g.S.Source.reads g.S.Source.ahead g.S.Source.place l.categories l.terms.long (on (in_run p (delimiter_in l.words) [])) (listed l.initial.names) l.initial.source (on (in_run p (delimiter_in l.words) (drop l.start (vec_items l.tokens)))) (listed l.names) l.source)
-    × (settled (delimiter_in l.words) (drop l.start (vec_items l.tokens)) ≡ take l.at (drop l.start (vec_items l.tokens)))
+    ((p : Progress) → Under l.terms p → Leads g.S.Source.reads g.S.Source.ahead g.S.Source.place l.categories l.terms.long (on (in_run p (delimiter_in l.delimiter.words.now) [])) (listed l.initial.names) l.initial.source (on (in_run p (delimiter_in l.delimiter.words.now) (drop l.start (vec_items l.tokens)))) (listed l.names) l.source)
+    × (settled (delimiter_in l.delimiter.words.now) (drop l.start (vec_items l.tokens)) ≡ take l.at (drop l.start (vec_items l.tokens)))
     × (deeper 0 (take l.at (drop l.start (vec_items l.tokens))) ≡ Some l.depth)
     × Permitted l.terms.long (take l.at (drop l.start (vec_items l.tokens)))
     × (l.terms.counted + (l.at + l.depth) + l.terms.few ≤ 4096)

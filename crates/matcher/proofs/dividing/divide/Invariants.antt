@@ -1,4 +1,4 @@
-use Rattle.std.proofs.Common.{◌≡◌, ◌+◌, ◌-◌, ◌≤◌, [], length, drop, vec_len}
+use Rattle.std.proofs.Common.{◌≡◌, ◌+◌, ◌≤◌, [], length, vec_len}
 use Rattle.names.specs.Spelled.{listed}
 use Rattle.matching.specs.Dividing.{parameters_of}
 use Rattle.matching.specs.Laws.{parameters_in}
@@ -10,12 +10,12 @@ use Rattle.matcher.proofs.dividing.divide.Given as goal
 
 abbrev pub invariant-parameters : goal.invariant-parameters
 invariant-parameters g l =
-    Leads g.S.Source.reads g.S.Source.ahead g.S.Source.place l.categories l.long (following (arguments_of l.initial.arguments) l.initial.counted (parameters_of (drop l.initial.at l.words)).delimiters) (listed l.initial.names) l.initial.source (following (arguments_of l.arguments) l.counted (parameters_of (drop l.at l.words)).delimiters) (listed l.names) l.source
-    × (delimiter_in (drop l.at l.words) ≡ [])
-    × (l.at ≤ length l.words)
+    Leads g.S.Source.reads g.S.Source.ahead g.S.Source.place l.categories l.long (following (arguments_of l.initial.arguments) l.initial.counted (parameters_of l.initial.rest).delimiters) (listed l.initial.names) l.initial.source (following (arguments_of l.arguments) l.counted (parameters_of l.rest).delimiters) (listed l.names) l.source
+    × (delimiter_in l.rest ≡ [])
+    × (length l.rest ≤ 2048)
     × (vec_len l.arguments.tokens ≤ l.counted)
-    × (l.counted + fewest (parameters_of (drop l.at l.words)).delimiters ≤ 4096)
-    × (vec_len l.arguments.spans + parameters_in (drop l.at l.words) ≤ 9)
+    × (l.counted + fewest (parameters_of l.rest).delimiters ≤ 4096)
+    × (vec_len l.arguments.spans + parameters_in l.rest ≤ 9)
 
 abbrev pub decreases-parameters : goal.decreases-parameters
-decreases-parameters g l = length l.words - l.at
+decreases-parameters g l = length l.rest

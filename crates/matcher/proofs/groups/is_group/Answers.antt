@@ -1,27 +1,24 @@
-use Rattle.std.proofs.Common.{◌≡◌, ◌-◌, Bool, true, ◌&&◌, length, get_or, take, drop, sym, ◌∙◌}
-use Rattle.std.proofs.lemmas.Bool.{and_left, and_right}
+use Rattle.std.proofs.Common.{◌≡◌, ◌-◌, length, take, drop, arith, rules}
 use Rattle.tokens.specs.declared.token.Token.TheVariants.{Name}
-use Rattle.matching.specs.Braces.{is_open, is_close, is_balanced}
-use Rattle.matcher.proofs.Grouped.{group_short, group_is}
+use Rattle.matching.specs.Braces.{is_balanced}
+use Rattle.matcher.proofs.Grouped.{group_is}
 use Rattle.matcher.proofs.groups.is_group.Goals as goal
+use Rattle.matcher.proofs.groups.is_group.Goals.{then-is_open, else-is_open}
 
-both : (a b c : Bool) → a ≡ true → b ≡ true → (a && (b && c)) ≡ c
-both a b c e f = rw (e, f)
-
-pub returns-then-count-lt2 : goal.returns-then-count-lt2
-returns-then-count-lt2 c = sym (group_short c.args.tokens.now c.if-count-lt2.true)
-
-pub returns-then-not-is_open : goal.returns-then-not-is_open
-returns-then-not-is_open c =
+pub returns-then-is_close : goal.returns-then-is_close
+returns-then-is_close c =
     let ts = c.args.tokens.now in
-    sym (group_is ts (Name 0) c.if-count-lt2.false ∙ and_left (is_open (get_or ts 0 (Name 0))) _ (sym c.if-not-is_open.ensures))
+    let g = group_is ts (Name 0) c.in-len2-up.len_at_least in
+    let e : c.eq.result ≡ is_balanced (take (length ts - 1 - 1) (drop 1 ts)) = search rules in
+    elim c.if-is_open.branch [
+      | then-is_open w ↦ grind (arith, g, e, c.is_open.ensures, w.if-is_open.true, w.is_close.ensures, w.value-is, c.if-is_close.true)
+      | else-is_open w ↦ grind (arith, g, e, w.value-is, c.if-is_close.true)
+    ]
 
-pub returns-then-not-is_close : goal.returns-then-not-is_close
-returns-then-not-is_close c =
-    let ts = c.args.tokens.now in
-    sym (group_is ts (Name 0) c.if-count-lt2.false ∙ and_right (is_open (get_or ts 0 (Name 0))) _ (and_left (is_close (get_or ts (length ts - 1) (Name 0))) _ (sym c.if-not-is_close.ensures)))
-
-pub returns : goal.returns
-returns c =
-    let ts = c.args.tokens.now in
-    c.is_balanced.ensures ∙ sym (group_is ts (Name 0) c.if-count-lt2.false ∙ both (is_open (get_or ts 0 (Name 0))) (is_close (get_or ts (length ts - 1) (Name 0))) (is_balanced (take (length ts - 1 - 1) (drop 1 ts))) (sym c.if-not-is_open.ensures) (sym c.if-not-is_close.ensures))
+pub returns-else-is_close : goal.returns-else-is_close
+returns-else-is_close c =
+    let g = group_is c.args.tokens.now (Name 0) c.in-len2-up.len_at_least in
+    elim c.if-is_open.branch [
+      | then-is_open w ↦ grind (arith, g, c.is_open.ensures, w.if-is_open.true, w.is_close.ensures, w.value-is, c.if-is_close.false)
+      | else-is_open w ↦ grind (arith, g, c.is_open.ensures, w.if-is_open.false, w.value-is, c.if-is_close.false)
+    ]

@@ -1,4 +1,4 @@
-use Rattle.std.proofs.Common.{◌≡◌, ℕ, ◌<◌, [], ◌∷◌, ◌++◌, length, drop, vec_items, vec_len, refl, ap, ◌∙◌, arith}
+use Rattle.std.proofs.Common.{◌≡◌, ℕ, ◌<◌, [], ◌∷◌, ◌++◌, length, drop, vec_items, vec_len, refl, ap, ◌∙◌, arith, rules}
 use Rattle.std.proofs.lemmas.List.{nil_from_length}
 use Rattle.matching.specs.Dividing.{stripped}
 use Rattle.matcher.specs.Held.{arguments_of}
@@ -25,14 +25,15 @@ invariant_of-self-2 g c =
       within = within_more (vec_len a.tokens) (vec_len c.delimited.new.tokens) (vec_items a.spans) c.delimited.ensures.grown a.within;
     }
 
-pub returns-then-width-eq0 : goal.returns-then-width-eq0
-returns-then-width-eq0 g c =
+pub returns-then-is_empty : goal.returns-then-is_empty
+returns-then-is_empty g c =
     let a = c.args.self.now in
     let long = c.args.terms.long in
     let w = c.undelimited.new.tokens in
     let k = c.in_ok-count.ensures in
-    let d = delimiter_in c.args.words.now in
-    let none : d ≡ [] = nil_from_length d (omega (arith, c.requires.width, c.if-width-eq0.true)) in
+    let d = delimiter_in c.args.delimiter.words.now in
+    let n : length c.args.delimiter.words.now ≡ 0 = search rules in
+    let none : d ≡ [] = nil_from_length d (omega (arith, c.args.delimiter.tokens, n)) in
     record {
       goes = λ ds e.
           onward _ _ _ _ long (stay_at _ _ _ _ long _ _ _ _ (at_skipping (arguments_of a) c.args.terms.counted d ds none))
@@ -48,8 +49,9 @@ returns g c =
     let long = c.args.terms.long in
     let w = c.delimited.new.tokens in
     let k = c.in_ok-count-2.ensures in
-    let d = delimiter_in c.args.words.now in
-    let some : 0 < length d = omega (arith, c.requires.width, c.if-width-eq0.false) in
+    let d = delimiter_in c.args.delimiter.words.now in
+    let n : 0 < length c.args.delimiter.words.now = search rules in
+    let some : 0 < length d = omega (arith, c.args.delimiter.tokens, n) in
     record {
       goes = λ ds e.
           onward _ _ _ _ long (stay_at _ _ _ _ long _ _ _ _ (at_run (arguments_of a) c.args.terms.counted d ds some))

@@ -5,7 +5,7 @@ use Rattle.sources.specs.declared.text.Text.{Text}
 use Rattle.sources.specs.Ahead.{fault, ahead_of}
 use Rattle.sources.specs.Texts.{made_lines, place_in}
 use Rattle.sources.specs.Texted.{text_ahead, text_place, text_lines}
-use Rattle.sources.proofs.Heads.{some_answered, fault_answered, none_answered, text_placed, turned_some, turned_none, onward_some}
+use Rattle.sources.proofs.Heads.{some_answered, fault_answered, none_answered, text_placed}
 use Rattle.sources.proofs.text_source.TextSource.read.Goals as goal
 
 -- the lines are the same, and the place is where the items ahead begin
@@ -33,13 +33,13 @@ pub returns-in-Some : goal.returns-in-Some
 returns-in-Some c =
     let u = c.read_line.new.self in
     let e = c.in_ok-token.ensures in
-    let t = turned_some c.args.categories.now _ (listed c.read_line.new.names) (listed c.read_line.new.names) (text_ahead u) c.in_ok-token.field-0 c.in-Some.token c.in-Some.is e.turned in
+    let t = rw c.in-Some.is at e.turned in
     let h = some_answered (text_place u) _ c.in-Some.token (listed c.read_line.new.names) (text_ahead u) _ (sym c.lines.invariant.0 ∙ t) in
     record {
       answer = h.0;
       names = h.1;
       items = h.2;
-      reads = stays c.args.self.now u (e.bytes ∙ c.lines.invariant.2) (inl (onward_some u.cursor.taken (vec_len u.line) c.in_ok-token.field-0 c.in-Some.token c.in-Some.is e.onward));
+      reads = stays c.args.self.now u (e.bytes ∙ c.lines.invariant.2) (inl (rw c.in-Some.is at e.onward));
     }
 
 pub returns-then-not-begin_line : goal.returns-then-not-begin_line
@@ -49,7 +49,7 @@ returns-then-not-begin_line c =
     let e = c.in_ok-token.ensures in
     let b = c.if-not-begin_line.ensures in
     let ns = listed c.read_line.new.names in
-    let t = turned_none c.args.categories.now _ ns ns (text_ahead v) c.in_ok-token.field-0 c.in_default.is e.turned in
+    let t = rw c.in_default.is at e.turned in
     let h = none_answered (text_place u) _ c.args.categories.now ns (text_ahead u) (sym c.lines.invariant.0 ∙ t ∙ ap (ahead_of c.args.categories.now ns) (sym b.ahead)) b.test.1 in
     record {
       answer = h.0;
