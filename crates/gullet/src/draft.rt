@@ -17,7 +17,7 @@ pub(crate) struct Draft {
 }
 
 // In the parameter text or the body, or behind a character of category 6 there.
-#[derive(Clone, Copy)]
+#[derive(Clone, Copy, Debug, PartialEq, Eq)]
 pub(crate) enum Stage {
     InText,
     HashInText,
@@ -26,7 +26,7 @@ pub(crate) enum Stage {
 }
 
 // Where the reading of a definition is: its stage, how many parameters it has, and how deep braces are.
-#[derive(Clone, Copy)]
+#[derive(Clone, Copy, Debug, PartialEq, Eq)]
 pub(crate) struct Spot {
     pub(crate) stage: Stage,
     pub(crate) count: u8,
@@ -34,7 +34,7 @@ pub(crate) struct Spot {
 }
 
 // What comes of reading a definition; once it is defined its words are in the draft.
-#[derive(Clone, Copy)]
+#[derive(Clone, Copy, Debug, PartialEq, Eq)]
 pub(crate) enum DefinitionEnd {
     Defined,
     Broken,

@@ -129,14 +129,10 @@ impl Draft {
             return self.more_body(BodyWord::Token(token), count, depth);
         }
         match digit_of(token) {
-            Some(digit) => {
-                if 1 <= digit && digit <= count {
-                    self.more_body(BodyWord::Reference(digit), count, depth)
-                } else {
-                    ControlFlow::Break(DefinitionEnd::Broken)
-                }
+            Some(digit) if 1 <= digit && digit <= count => {
+                self.more_body(BodyWord::Reference(digit), count, depth)
             }
-            None => ControlFlow::Break(DefinitionEnd::Broken),
+            _ => ControlFlow::Break(DefinitionEnd::Broken),
         }
     }
 

@@ -7,15 +7,15 @@ use std::ops::ControlFlow;
 use tokens::Token;
 
 // A token is read.
-#[derive(Clone, Copy)]
+#[derive(Clone, Copy, Debug, PartialEq, Eq)]
 pub(crate) struct One;
 
 // Two tokens are.
-#[derive(Clone, Copy)]
+#[derive(Clone, Copy, Debug, PartialEq, Eq)]
 pub(crate) struct Two;
 
 // Blanks are skipped, and a name is taken, if one is there.
-#[derive(Clone, Copy)]
+#[derive(Clone, Copy, Debug, PartialEq, Eq)]
 pub(crate) struct Named;
 
 impl Automaton for One {

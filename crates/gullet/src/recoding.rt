@@ -11,11 +11,11 @@ use std::ops::ControlFlow;
 use tokens::Token;
 
 // The quote of \catcode, and the token behind it.
-#[derive(Clone, Copy)]
+#[derive(Clone, Copy, Debug, PartialEq, Eq)]
 pub(crate) struct Subjects;
 
 // An optional = and digits up to 15, with the token behind them.
-#[derive(Clone, Copy)]
+#[derive(Clone, Copy, Debug, PartialEq, Eq)]
 pub(crate) struct Numbers;
 
 impl Automaton for Subjects {
@@ -80,11 +80,11 @@ pub(crate) fn byte_of(names: &Names, token: Token) -> Option<u8>
     match token {
         Token::Character(_, code) => Some(code),
         Token::Name(number) => {
-            if number < 256 {
-                return Some(number as u8);
+            if let Ok(code) = u8::try_from(number) {
+                return Some(code);
             }
-            match names.spelling(number) {
-                Some([code]) => Some(*code),
+            match names.spelling(number)? {
+                [code] => Some(*code),
                 _ => None,
             }
         }

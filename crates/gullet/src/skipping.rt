@@ -33,22 +33,14 @@ impl Automaton for Skip<'_> {
             Meaning::Primitive(Primitive::Ifx | Primitive::IfTrue | Primitive::IfFalse) => {
                 ControlFlow::Continue(depth + 1)
             }
-            Meaning::Primitive(Primitive::Else) => {
-                if depth > 0 {
-                    return ControlFlow::Continue(depth);
-                }
-                match self.until {
-                    Until::ElseOrFi => ControlFlow::Break(Found::Else),
-                    Until::OnlyFi => ControlFlow::Continue(0),
-                }
-            }
-            Meaning::Primitive(Primitive::Fi) => {
-                if depth > 0 {
-                    ControlFlow::Continue(depth - 1)
-                } else {
-                    ControlFlow::Break(Found::Fi)
-                }
-            }
+            Meaning::Primitive(Primitive::Else) if depth == 0 => match self.until {
+                Until::ElseOrFi => ControlFlow::Break(Found::Else),
+                Until::OnlyFi => ControlFlow::Continue(0),
+            },
+            Meaning::Primitive(Primitive::Fi) => match depth.checked_sub(1) {
+                Some(less) => ControlFlow::Continue(less),
+                None => ControlFlow::Break(Found::Fi),
+            },
             _ => ControlFlow::Continue(depth),
         }
     }

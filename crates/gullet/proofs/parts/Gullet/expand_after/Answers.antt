@@ -41,4 +41,4 @@ returns-clause-does g c =
     let here = position_of g.S.Source.ahead c.fed.new.names c.fed.new.source in
     does_as _ expand_after (λ read. sym (after_reads s (reader s.stands read) few))
     (fed_then one_from waits c.args.self.now {mid = record c.args.self.now { source = c.fed.new.source; names = c.fed.new.names }} t e.answer e.stands refl (λ z q. refl)
-    (record { answer = λ read. refl; state = λ read. ap (λ (ts : List Task). state here s.book s.conditionals ts) (c.push.ensures.items ∙ joins 64 (After t) s.tasks less) }))
+    (record { answer = λ read. refl; state = λ read. ap (λ (ts : List Task). state here s.book s.conditionals ts) (c.start.ensures.tasks ∙ joins 64 (After t) s.tasks less) }))
