@@ -17,7 +17,7 @@ use Rattle.gullet.specs.declared.fault.GulletFault.{GulletFault}
 use Rattle.gullet.specs.Faults.{fault_at, placed}
 use Rattle.gullet.specs.States.{cleared}
 
-module _ (s : State) (r : Reader) (a : Answer) (p : Place) where
+module _ (s : State) (r : Reader) (a : Answer) where
   -- the state that a refusal leaves
   pub grouped_left : (does b : BookState) (x : Result (Unit {0}) BookFault) (res : Result Answer GulletFault) → false ≡ is_ok x → IsErr res → b ≡ after x s.book does
       → cleared res (state r.stands b s.conditionals s.tasks) ≡ (grouped s r a (after x s.book does) x).state
@@ -25,18 +25,7 @@ module _ (s : State) (r : Reader) (a : Answer) (p : Place) where
   grouped_left does b (Err f) (Ok y) h e k = cc
   grouped_left does b (Err f) (Err g) h e k = ap (λ (y : BookState). state r.stands y s.conditionals []) k
 
-  pub grouped_done : (b : BookState) (x : Result (Unit {0}) BookFault) → Ok tt ≡ x
-      → (Ok a ≡ placed p (grouped s r a b x).answer) × (state r.stands b s.conditionals s.tasks ≡ (grouped s r a b x).state)
-  grouped_done b (Ok _) e = (refl, refl)
-  grouped_done b (Err f) e = cc
-
-  pub grouped_refused : (does : BookState) (x : Result (Unit {0}) BookFault) (f : BookFault) → Err f ≡ x
-      → (Err (fault_at p (record { cause = book f; status = Normal })) ≡ placed p (grouped s r a (after x s.book does) x).answer)
-      × (state r.stands (after x s.book does) s.conditionals [] ≡ (grouped s r a (after x s.book does) x).state)
-  grouped_refused does (Ok _) f e = cc
-  grouped_refused does (Err g) f e = let k : f ≡ g = cc in (ap (λ (y : BookFault). Err (fault_at p (record { cause = book y; status = Normal }))) k, refl)
-
-module _ (s : State) (r : Reader) (back : Position) (sc : Scope) (n : Entry) (p : Place) where
+module _ (s : State) (r : Reader) (back : Position) (sc : Scope) (n : Entry) where
   -- the state that a refusal leaves
   pub recorded_left : (does b : BookState) (x : Result (Unit {0}) BookFault) (res : Result Answer GulletFault) → false ≡ is_ok x → IsErr res → b ≡ after x s.book does
       → cleared res (state r.stands b s.conditionals s.tasks) ≡ (recorded_as s r back sc n (after x s.book does) x).state
@@ -44,16 +33,11 @@ module _ (s : State) (r : Reader) (back : Position) (sc : Scope) (n : Entry) (p 
   recorded_left does b (Err f) (Ok y) h e k = cc
   recorded_left does b (Err f) (Err g) h e k = ap (λ (y : BookState). state r.stands y s.conditionals []) k
 
+  -- the state that an assignment leaves
   pub recorded_done : (b : BookState) (x : Result (Unit {0}) BookFault) → Ok tt ≡ x
-      → (Ok (Assigned sc n) ≡ placed p (recorded_as s r back sc n b x).answer) × (state back b s.conditionals [] ≡ (recorded_as s r back sc n b x).state)
-  recorded_done b (Ok _) e = (refl, refl)
+      → state back b s.conditionals [] ≡ (recorded_as s r back sc n b x).state
+  recorded_done b (Ok _) e = refl
   recorded_done b (Err f) e = cc
-
-  pub recorded_refused : (does : BookState) (x : Result (Unit {0}) BookFault) (f : BookFault) → Err f ≡ x
-      → (Err (fault_at p (record { cause = book f; status = Normal })) ≡ placed p (recorded_as s r back sc n (after x s.book does) x).answer)
-      × (state r.stands (after x s.book does) s.conditionals [] ≡ (recorded_as s r back sc n (after x s.book does) x).state)
-  recorded_refused does (Ok _) f e = cc
-  recorded_refused does (Err g) f e = let k : f ≡ g = cc in (ap (λ (y : BookFault). Err (fault_at p (record { cause = book y; status = Normal }))) k, refl)
 
 -- where reading stood before does not matter
 pub recorded_same : (s : State) (q r : Reader) (back : Position) (sc : Scope) (n : Entry) (b : BookState) (x : Result (Unit {0}) BookFault)

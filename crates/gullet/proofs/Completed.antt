@@ -31,14 +31,6 @@ module _ (s : State) (r : Reader) (cs : List Part) (p : Place) where
   put_state (put.put h) e = refl
   put_state (put.refused f) e = cc
 
-  pub refused_answer : (x : Put) (f : PileFault) → Err f ≡ put_answer p x → Err (record { cause = Pile f; status = Normal }) ≡ placed p (completed_by s r cs x).answer
-  refused_answer (put.put h) f e = cc
-  refused_answer (put.refused g) f e = let k : f ≡ piles.Pile g p = cc in ap (λ (x : PileFault). Err (record { cause = Pile x; status = Normal })) k
-
-  pub refused_state : (x : Put) (f : PileFault) → Err f ≡ put_answer p x → state (readers.put r.stands (held_after r.stands.held x)) s.book s.conditionals [] ≡ (completed_by s r cs x).state
-  refused_state (put.put h) f e = cc
-  refused_state (put.refused g) f e = refl
-
 -- with other conditionals open from then on
 module _ (s : State) (r : Reader) (ds : List Part) (f : List Part → List Part) (p : Place) where
   pub turned_answer : (x : Put) → (completed_by s r ds x).answer ≡ (completed_by s r (f ds) x).answer

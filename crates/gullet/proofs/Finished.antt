@@ -26,26 +26,11 @@ use Rattle.gullet.proofs.Booked.{recorded_same}
 abbrev pub at_pile : {A : Type 0} → PileFault → Result A GulletFault
 at_pile f = Err (record { cause = Pile f; status = Normal })
 
-module _ {O : Type 0} (s : State) (p : Place) (end : O → Reader → Stepped) where
-  pub came_ends : (d : Driven O Reader) (o : O) → Ok o ≡ answer_of p d → end o (stands_at d) ≡ finished s Normal d end
-  came_ends (came x r) o e = let k : o ≡ x = cc in ap (λ (y : O). end y r) k
-  came_ends (ended r) o e = cc
-  came_ends (failed x r) o e = cc
-
-  pub short_ends : (d : Driven O Reader) (f : PileFault) → Err f ≡ answer_of p d
-      → (at_pile f ≡ placed p (finished s Normal d end).answer) × (state (stands_at d).stands s.book s.conditionals [] ≡ (finished s Normal d end).state)
-  short_ends (came x r) f e = cc
-  short_ends (ended r) f e = let k : f ≡ piles.Pile Ended p = cc in (ap at_pile k, refl)
-  short_ends (failed x r) f e = let k : f ≡ piles.Line (record { refusal = x; place = p }) = cc in (ap at_pile k, refl)
-
 module _ (p : Place) where
   pub target_came : (d : Driven (Option ℕ) Reader) (o : Option ℕ) → Ok o ≡ answer_of p d → name_from o ≡ target_of d
   target_came (came x r) o e = let k : o ≡ x = cc in ap name_from k
   target_came (ended r) o e = cc
   target_came (failed x r) o e = cc
-
-  pub target_is : (d : Driven (Option ℕ) Reader) (o w : Option ℕ) → o ≡ w → Ok o ≡ answer_of p d → placed p (name_from w) ≡ placed p (target_of d)
-  target_is d o w k e = ap (λ (x : Option ℕ). placed p (name_from x)) (sym k) ∙ ap (placed p) (target_came d o e)
 
   pub target_short : (d : Driven (Option ℕ) Reader) (f : PileFault) → Err f ≡ answer_of p d → at_pile f ≡ placed p (target_of d)
   target_short (came x r) f e = cc
@@ -58,12 +43,6 @@ name_found p None x h = h
 name_found p (Some n) x h = h
 
 module _ (s : State) (p : Place) (more : ℕ → Reader → Stepped) where
-  pub named_came : (d : Driven (Option ℕ) Reader) (n : ℕ) → Ok n ≡ placed p (target_of d) → more n (stands_at d) ≡ finished s Normal d (named_by s more)
-  named_came (came (Some m) r) n e = let k : n ≡ m = cc in ap (λ (y : ℕ). more y r) k
-  named_came (came None r) n e = cc
-  named_came (ended r) n e = cc
-  named_came (failed x r) n e = cc
-
   pub named_under : (d : Driven (Option ℕ) Reader) (n : ℕ) → Ok n ≡ placed p (target_of d) → Ok (Some n) ≡ under Normal p d
   named_under (came (Some m) r) n e = let k : n ≡ m = cc in ap (λ (y : ℕ). Ok (Some y)) k
   named_under (came None r) n e = cc
@@ -77,11 +56,7 @@ module _ (s : State) (p : Place) (more : ℕ → Reader → Stepped) where
   named_refused (ended r) f e = let k : f ≡ fault_at p (record { cause = pile Ended; status = Normal }) = cc in (ap (λ (y : GulletFault). Err y) k, refl)
   named_refused (failed x r) f e = let k : f ≡ fault_at p (record { cause = read x; status = Normal }) = cc in (ap (λ (y : GulletFault). Err y) k, refl)
 
--- a rule that does not look at where reading stood before goes on from where it stands now
-pub onto : (R : State → Reader → Stepped) → ((s : State) (q r : Reader) → R (at s q) r ≡ R s r)
-    → (s now : State) (q : Reader) → now ≡ at s q → R now (reader now.stands q.read) ≡ R s q
-onto R same s now q e = ap (λ (x : State). R x (reader x.stands q.read)) e ∙ same s q q
-
+-- where reading stood before does not matter
 pub let_same : (n : ℕ) (sc : Scope) (t : Token) (s : State) (q r : Reader) → let_as (at s q) n sc t r ≡ let_as s n sc t r
 let_same n sc t s q r =
     let m = meaning (meanings_of s.book) t in

@@ -1,5 +1,5 @@
 -- Rules fed by a gullet, and what comes of conditionals.
-use Rattle.std.proofs.Common.{◌≡◌, ℕ, ◌<◌, Bool, true, false, leb, List, [], ◌∷◌, length, Ok, Err, Result, MatchResult, refl, ap, ◌∙◌, subst, arith}
+use Rattle.std.proofs.Common.{◌≡◌, ℕ, ◌<◌, Bool, true, false, leb, List, [], ◌∷◌, length, Some, None, Ok, Err, Option, Result, MatchResult, refl, ap, ◌∙◌, subst, arith}
 use Rattle.std.proofs.lemmas.Bool.{lt-ltb}
 use Rattle.tokens.specs.declared.token.Token.{Token}
 use Rattle.tokens.specs.declared.answer.Answer.{Answer}
@@ -30,7 +30,7 @@ use Rattle.gullet.specs.declared.fault.Cause.TheVariants.{Pile}
 use Rattle.gullet.specs.declared.fault.GulletFault.{GulletFault}
 use Rattle.gullet.specs.declared.turn.Turn.TheVariants.{Begin}
 use Rattle.gullet.specs.Faults.{placed}
-use Rattle.gullet.specs.Passing.{under, skipping, turn_at, is_first}
+use Rattle.gullet.specs.Passing.{under, skipping, turn_at}
 use Rattle.gullet.specs.Turns.{turned}
 
 -- what is answered of a rule, by the pile's answer
@@ -67,20 +67,18 @@ module _ {O : Type 0} (s : State) (st : Status) (p : Place) (end : O → Reader 
   broke_state (failed k b) f e = refl
 
 -- a rule that goes on elsewhere, of a state that differs in where reading stands
-module _ (rule : State → Reader → Stepped) (s z : State) (q : Reader) (same : rule (at s q) q ≡ rule s q) (k : z ≡ at s q) where
-  pub rests_answer : (p : Place) (x : Result Answer GulletFault) → ((read : List Token) → x ≡ placed p (rule z (reader z.stands read)).answer) → x ≡ placed p (rule s q).answer
-  rests_answer p x f =
-      subst (λ (y : State). x ≡ placed p (rule y (reader y.stands q.read)).answer) k (f q.read) ∙ ap (λ (y : Stepped). placed p y.answer) same
-
-  pub rests_state : (w : State) → ((read : List Token) → w ≡ (rule z (reader z.stands read)).state) → w ≡ (rule s q).state
-  rests_state w f = subst (λ (y : State). w ≡ (rule y (reader y.stands q.read)).state) k (f q.read) ∙ ap (λ (y : Stepped). y.state) same
-
 elsewhere_by : (s : State) (q r : Reader) (cs : List Part) (x : Put) → completed_by (at s q) r cs x ≡ completed_by s r cs x
 elsewhere_by s q r cs (put.put h) = refl
 elsewhere_by s q r cs (put.refused e) = refl
 
 pub elsewhere : (s : State) (q r : Reader) (cs : List Part) (ts : List Token) → completed (at s q) r cs ts ≡ completed s r cs ts
 elsewhere s q r cs ts = elsewhere_by s q r cs (put_back _ r.stands.held)
+
+-- whether a conditional is open in its first part
+abbrev pub is_first : Option Part → Bool
+is_first None = false
+is_first (Some First) = true
+is_first (Some Second) = false
 
 -- a \fi
 module _ (s : State) (r : Reader) where
@@ -93,11 +91,6 @@ module _ (s : State) (r : Reader) where
   fi_closes (c ∷ cs) h = refl
 
   -- an \else
-  pub else_refused : (cs : List Part) → is_first (front cs) ≡ false → at_else_of s r cs ≡ refuse s r Normal (gullet Misplaced)
-  else_refused [] e = refl
-  else_refused (First ∷ cs) e = cc
-  else_refused (Second ∷ cs) e = refl
-
   pub else_skips : (cs : List Part) → is_first (front cs) ≡ true → at_else_of s r cs ≡ finished s Skipping (skipping s r OnlyFi) (λ o q. completed s q (behind cs) [])
   else_skips [] e = cc
   else_skips (First ∷ cs) e = refl
@@ -114,9 +107,6 @@ module _ (s : State) (r : Reader) where
 
   pub after_reads : leb 64 (length s.tasks) ≡ false → expand_after s r ≡ finished s Normal (drive one_feed (on tt) r (ahead s r)) after_one
   after_reads e = rw e
-
-  pub after_refused : leb 64 (length s.tasks) ≡ true → expand_after s r ≡ refuse s r Normal (gullet TasksFull)
-  after_refused e = rw e
 
 -- a conditional is decided
 module _ (s : State) (few : length s.conditionals < 100) where

@@ -2,7 +2,6 @@
 --   under      what is answered of a rule fed under a status, where the place is then p
 --   skipping   a skip
 --   turn_at    what becomes of the open conditionals where a skip ends
---   is_first   whether a conditional is open in its first part
 use Rattle.std.specs.Prelude.{Bool, true, false, Some, None, Ok, Err, Option, Result}
 use Rattle.matching.specs.Matching.{on}
 use Rattle.sources.specs.declared.fault.Place.{Place}
@@ -34,8 +33,3 @@ skipping s r u = drive (skip_feed (meanings_of s.book) u) (on 0) r (ahead s r)
 abbrev pub turn_at : Found → Turn
 turn_at found.Else = BeginSecond
 turn_at found.Fi = Keep
-
-abbrev pub is_first : Option Part → Bool
-is_first None = false
-is_first (Some First) = true
-is_first (Some Second) = false

@@ -46,7 +46,8 @@ impl<S: Source> Gullet<S> {
         ensures does { Does S.Source.ahead S.Source.place self.old self.new result (λ s r. let_as s name scope token r) }
         ensures below { self.new.source.below ≡ self.old.source.below }
     {
-        copy_meaning(&mut self.book, name, scope, token).map_err(|fault| self.refused_by_book(fault))?;
+        let outcome = copy_meaning(&mut self.book, name, scope, token);
+        outcome.map_err(|fault| self.refused_by_book(fault))?;
         self.tasks.clear();
         Ok(Answer::Assigned(scope, Entry::Name(name)))
     }

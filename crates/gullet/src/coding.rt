@@ -77,7 +77,8 @@ impl<S: Source> Gullet<S> {
         ensures does { Does S.Source.ahead S.Source.place self.old self.new result (λ s r. recoding_by s scope (Some token) r) }
         ensures onward { ReadsOn S.Source.reads self.old self.new }
     {
-        let code = byte_of(&self.names, token).ok_or_else(|| self.refusal(GulletRefusal::BadCatcode))?;
+        let found = byte_of(&self.names, token);
+        let code = found.ok_or_else(|| self.refusal(GulletRefusal::BadCatcode))?;
         self.recode_byte(code, scope)
     }
 

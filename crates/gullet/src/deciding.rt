@@ -3,7 +3,7 @@ ghost use Rattle.driving.specs.declared.status.Status.TheVariants.{Skipping};
 ghost use Rattle.pending.specs.Opened.{parts_of};
 ghost use Rattle.rules.specs.Expanding.{at_else_of, decided};
 ghost use Rattle.gullet.specs.Does.{Does, Finds, ReadsOn};
-ghost use Rattle.gullet.specs.Passing.{under, skipping, turn_at, is_first};
+ghost use Rattle.gullet.specs.Passing.{under, skipping, turn_at};
 
 use crate::fault::{Cause, GulletFault};
 use crate::feeding::fed;

@@ -37,7 +37,11 @@ impl Automaton for Two {
 
     ghost feeds = { λ _. two_feed };
 
-    fn feed(&self, phase: Option<Token>, token: Token) -> ControlFlow<(Token, Token), Option<Token>> {
+    fn feed(
+        &self,
+        phase: Option<Token>,
+        token: Token,
+    ) -> ControlFlow<(Token, Token), Option<Token>> {
         match phase {
             None => ControlFlow::Continue(Some(token)),
             Some(first) => ControlFlow::Break((first, token)),

@@ -22,14 +22,20 @@ pub(crate) fn meaning_of(book: &Book, token: Token) -> Meaning<'_>
 pub(crate) fn is_space(book: &Book, token: Token) -> bool
     ensures { result ≡ is_space (meanings_of (book_of book.now)) token }
 {
-    matches!(meaning_of(book, token), Meaning::Character(TokenCategory::Space, _))
+    matches!(
+        meaning_of(book, token),
+        Meaning::Character(TokenCategory::Space, _)
+    )
 }
 
 // Whether it means a character of category 6.
 pub(crate) fn is_hash(book: &Book, token: Token) -> bool
     ensures { result ≡ is_hash (meanings_of (book_of book.now)) token }
 {
-    matches!(meaning_of(book, token), Meaning::Character(TokenCategory::Parameter, _))
+    matches!(
+        meaning_of(book, token),
+        Meaning::Character(TokenCategory::Parameter, _)
+    )
 }
 
 pub(crate) fn is_explicit_space(token: Token) -> bool

@@ -13,5 +13,5 @@ returns-in_err-map_err-clause-does g c =
     let e = c.close.ensures in
     record {
       answer = search rules;
-      state = λ read. grouped_left s (reader s.stands read) (Closed c.args.kind) (g.S.Source.place c.args.self.now.source.below) (closing s.book) (book_of c.close.new.self) (close_answer c.args.kind s.book) c.from_residual.result (c.in_err-map_err.ensures.variant ∙ ap is_ok e.answer) c.from_residual.ensures.0 e.state;
+      state = λ read. grouped_left s (reader s.stands read) (Closed c.args.kind) (closing s.book) (book_of c.close.new.self) (close_answer c.args.kind s.book) c.from_residual.result (c.in_err-map_err.ensures.variant ∙ ap is_ok e.answer) c.from_residual.ensures.0 e.state;
     }

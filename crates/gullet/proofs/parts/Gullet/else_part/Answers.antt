@@ -6,11 +6,11 @@ use Rattle.rules.specs.Expanding.{at_else_of}
 use Rattle.rules.specs.Readers.{reader}
 use Rattle.rules.specs.States.{completed}
 use Rattle.gullet.specs.Fed.{stays}
-use Rattle.gullet.specs.Passing.{skipping, is_first}
+use Rattle.gullet.specs.Passing.{skipping}
 use Rattle.gullet.specs.States.{state_of}
 use Rattle.gullet.proofs.Doing.{err_is, does_as, does_then, does_short}
 use Rattle.gullet.proofs.Holding.{onward_both}
-use Rattle.gullet.proofs.Passed.{else_skips, elsewhere}
+use Rattle.gullet.proofs.Passed.{is_first, else_skips, elsewhere}
 use Rattle.gullet.proofs.parts.Gullet.else_part.Goals as goal
 
 pub returns-then-ne-clause-onward : goal.returns-then-ne-clause-onward

@@ -16,8 +16,8 @@ returns-in_err-map_err-clause-does g c =
     let n = c.args.name in
     let sc = c.args.scope in
     let m = meaning (meanings_of s.book) c.args.token in
-    let e = c.copy_meaning.ensures in
+    let e = c.copy_meaning-outcome.ensures in
     record {
       answer = search rules;
-      state = λ read. recorded_left s (reader s.stands read) s.stands sc (Name n) (g.S.Source.place c.args.self.now.source.below) (naming (operation sc n m) s.book) (book_of c.copy_meaning.new.book) (name_answer sc n m s.book) c.from_residual.result (c.in_err-map_err.ensures.variant ∙ ap is_ok e.answer) c.from_residual.ensures.0 e.state;
+      state = λ read. recorded_left s (reader s.stands read) s.stands sc (Name n) (naming (operation sc n m) s.book) (book_of c.copy_meaning-outcome.new.book) (name_answer sc n m s.book) c.from_residual.result (c.in_err-map_err.ensures.variant ∙ ap is_ok e.answer) c.from_residual.ensures.0 e.state;
     }

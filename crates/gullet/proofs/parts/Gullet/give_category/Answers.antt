@@ -18,7 +18,7 @@ returns-in_err-map_err-clause-does g c =
     let e = c.assign_category.ensures in
     record {
       answer = search rules;
-      state = λ read. rw (category_read c.args.number y _ c.in-Ok.ensures) (recorded_left s (reader s.stands read) s.stands sc (Code x y) (g.S.Source.place c.args.self.now.source.below) (coding (operation sc x y) s.book) (book_of c.assign_category.new.self) (code_answer sc x y s.book) c.from_residual.result (c.in_err-map_err.ensures.variant ∙ ap is_ok e.answer) c.from_residual.ensures.0 e.state);
+      state = λ read. rw (category_read c.args.number y _ c.in-Ok.ensures) (recorded_left s (reader s.stands read) s.stands sc (Code x y) (coding (operation sc x y) s.book) (book_of c.assign_category.new.self) (code_answer sc x y s.book) c.from_residual.result (c.in_err-map_err.ensures.variant ∙ ap is_ok e.answer) c.from_residual.ensures.0 e.state);
     }
 
 pub returns-clause-does : goal.returns-clause-does
@@ -30,5 +30,5 @@ returns-clause-does g c =
     let e = c.assign_category.ensures in
     record {
       answer = search rules;
-      state = λ read. rw (category_read c.args.number y _ c.in-Ok.ensures, e.state, c.clear.ensures) (recorded_done s (reader s.stands read) s.stands sc (Code x y) (g.S.Source.place c.args.self.now.source.below) (after_code sc x y s.book) (code_answer sc x y s.book) (search rules)).1;
+      state = λ read. rw (category_read c.args.number y _ c.in-Ok.ensures, e.state, c.clear.ensures) (recorded_done s (reader s.stands read) s.stands sc (Code x y) (after_code sc x y s.book) (code_answer sc x y s.book) (search rules)).1;
     }

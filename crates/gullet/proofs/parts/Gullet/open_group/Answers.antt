@@ -13,5 +13,5 @@ returns-in_err-map_err-clause-does g c =
     let e = c.open.ensures in
     record {
       answer = search rules;
-      state = λ read. grouped_left s (reader s.stands read) (Opened c.args.kind) (g.S.Source.place c.args.self.now.source.below) (opening c.args.kind s.book) (book_of c.open.new.self) (open_answer s.book) c.from_residual.result (c.in_err-map_err.ensures.variant ∙ ap is_ok e.answer) c.from_residual.ensures.0 e.state;
+      state = λ read. grouped_left s (reader s.stands read) (Opened c.args.kind) (opening c.args.kind s.book) (book_of c.open.new.self) (open_answer s.book) c.from_residual.result (c.in_err-map_err.ensures.variant ∙ ap is_ok e.answer) c.from_residual.ensures.0 e.state;
     }
