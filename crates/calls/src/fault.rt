@@ -6,7 +6,7 @@ use matching::MatcherRefusal;
 use sources::{PileFault, Place};
 
 // Why a call's arguments cannot be read. It keeps the whole fault of the pile below.
-#[derive(Clone, Copy)]
+#[derive(Clone, Copy, Debug, PartialEq, Eq)]
 pub enum MatcherCause {
     Pile(PileFault),
     Matcher(MatcherRefusal, Place),
@@ -21,7 +21,7 @@ impl From<PileFault> for MatcherCause {
 }
 
 // A fault of the matcher, with the scanning status in which it came.
-#[derive(Clone, Copy)]
+#[derive(Clone, Copy, Debug, PartialEq, Eq)]
 pub struct MatcherFault {
     pub cause: MatcherCause,
     pub status: Status,

@@ -1,4 +1,3 @@
-ghost use Rattle.lines.specs.Line.{Categories};
 ghost use Rattle.names.specs.Spelled.{listed};
 ghost use Rattle.driving.specs.Streams.{stream, Takes};
 
@@ -7,6 +6,7 @@ use sources::{PileFault, PileRefusal, Source};
 use tokens::{Category, Token};
 
 // The next token, where one is needed: with nothing ahead it is refused 25.
+// Three parameters: with one struct of them each contract, and each loop, would have to say that its borrows stay the same ones.
 pub fn needed<S: Source>(
     source: &mut S,
     categories: &[Category; 256],

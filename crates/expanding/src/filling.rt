@@ -1,4 +1,4 @@
-ghost use Rattle.std.specs.Prelude.{◌≡◌, ◌≤◌, [], ◌++◌, length, Some, None, Ok, Err, IfOk, if◌then◌else◌, vec_capacity, nat_le};
+ghost use Rattle.std.specs.Prelude.{◌≡◌, ◌≤◌, [], length, Some, None, Ok, Err, IfOk, if◌then◌else◌, vec_capacity, nat_le};
 ghost use Rattle.matcher.specs.Held.{arguments_of};
 ghost use Rattle.expanding.specs.Substituting.{argument_at, word_tokens, substituted, expansion_of};
 

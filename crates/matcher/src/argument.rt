@@ -1,4 +1,4 @@
-ghost use Rattle.std.specs.Prelude.{◌≡◌, ◌+◌, ◌<◌, ◌≤◌, List, [], ◌∷◌, ◌++◌, length, drop, IfOk, vec_len, MatchResult, OnOk};
+ghost use Rattle.std.specs.Prelude.{◌≡◌, ◌+◌, ◌<◌, ◌≤◌, List, [], ◌∷◌, ◌++◌, drop, IfOk, vec_len, MatchResult, OnOk};
 ghost use Rattle.tokens.specs.declared.token.Token.{Token as Read};
 ghost use Rattle.names.specs.Spelled.{listed};
 ghost use Rattle.matching.specs.Dividing.{stripped};
@@ -22,29 +22,29 @@ use tokens::Category;
 impl Arguments {
     // The tokens from a place on are one more argument.
     fn keep(&mut self, from: usize)
-        requires from { from ≤ vec_len self.old.tokens }
+        requires from { from ≤ vec_len self.old.gathered.tokens }
         requires room { vec_len self.old.spans < 9 }
-        ensures arguments { arguments_of self.new ≡ arguments_of self.old ++ drop from self.old.tokens.items ∷ [] }
-        ensures tokens { self.new.tokens ≡ self.old.tokens }
+        ensures arguments { arguments_of self.new ≡ arguments_of self.old ++ drop from self.old.gathered.tokens.items ∷ [] }
+        ensures gathered { self.new.gathered ≡ self.old.gathered }
         ensures spans { vec_len self.new.spans ≡ vec_len self.old.spans + 1 }
     {
-        let to = self.tokens.len();
+        let to = self.gathered.tokens.len();
         self.spans.push_reserved(Span { from, to });
     }
 
     // The same, without the braces of a group.
     fn keep_stripped(&mut self, from: usize)
-        requires from { from ≤ vec_len self.old.tokens }
-        requires short { vec_len self.old.tokens ≤ 6145 }
+        requires from { from ≤ vec_len self.old.gathered.tokens }
+        requires short { vec_len self.old.gathered.tokens ≤ 6145 }
         requires room { vec_len self.old.spans < 9 }
-        ensures arguments { arguments_of self.new ≡ arguments_of self.old ++ stripped (drop from self.old.tokens.items) ∷ [] }
-        ensures tokens { self.new.tokens ≡ self.old.tokens }
+        ensures arguments { arguments_of self.new ≡ arguments_of self.old ++ stripped (drop from self.old.gathered.tokens.items) ∷ [] }
+        ensures gathered { self.new.gathered ≡ self.old.gathered }
         ensures spans { vec_len self.new.spans ≡ vec_len self.old.spans + 1 }
     {
-        if !is_group(&self.tokens.as_slice()[from..]) {
+        if !is_group(&self.gathered.tokens.as_slice()[from..]) {
             return self.keep(from);
         }
-        let to = self.tokens.len() - 1;
+        let to = self.gathered.tokens.len() - 1;
         self.spans.push_reserved(Span { from: from + 1, to });
     }
 
@@ -57,16 +57,16 @@ impl Arguments {
         terms: Terms,
         delimiter: Delimiter<'_>,
     ) -> Result<usize, MatcherCause>
-        requires held { vec_len self.old.tokens ≤ terms.counted }
+        requires held { vec_len self.old.gathered.tokens ≤ terms.counted }
         requires fits { terms.counted + terms.few ≤ 4096 }
         requires room { vec_len self.old.spans < 9 }
         ensures goes { (ds : List (List Read)) → fewest ds ≡ terms.few → MatchResult result (λ n. Leads S.Source.reads S.Source.ahead S.Source.place categories.now terms.long (following (arguments_of self.old) terms.counted (delimiter_in delimiter.entry.words.now ∷ ds)) (listed names.old) source.old (following (arguments_of self.new) (terms.counted + n) ds) (listed names.new) source.new) (λ f. Fails S.Source.reads S.Source.ahead S.Source.place categories.now terms.long (following (arguments_of self.old) terms.counted (delimiter_in delimiter.entry.words.now ∷ ds)) (listed names.old) source.old f (listed names.new) source.new) }
-        ensures fits { IfOk result (λ n. (terms.counted + n + terms.few ≤ 4096) × (vec_len self.new.tokens ≤ terms.counted + n)) }
+        ensures fits { IfOk result (λ n. (terms.counted + n + terms.few ≤ 4096) × (vec_len self.new.gathered.tokens ≤ terms.counted + n)) }
         ensures spans { OnOk result (vec_len self.new.spans ≡ vec_len self.old.spans + 1) }
     {
-        let start = self.tokens.len();
+        let start = self.gathered.tokens.len();
         if delimiter.words.is_empty() {
-            let count = undelimited(source, categories, names, terms, &mut self.tokens)?;
+            let count = undelimited(source, categories, names, terms, &mut self.gathered)?;
             self.keep(start);
             return Ok(count);
         }
@@ -76,7 +76,7 @@ impl Arguments {
             names,
             terms,
             delimiter,
-            &mut self.tokens,
+            &mut self.gathered,
         )?;
         self.keep_stripped(start);
         Ok(count)

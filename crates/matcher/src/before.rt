@@ -1,4 +1,4 @@
-ghost use Rattle.std.specs.Prelude.{◌≡◌, Bool, List, [], MatchResult};
+ghost use Rattle.std.specs.Prelude.{Bool, List, [], MatchResult};
 ghost use Rattle.tokens.specs.declared.token.Token.{Token};
 ghost use Rattle.names.specs.Spelled.{listed};
 ghost use Rattle.matching.specs.Matching.{awaiting, following};

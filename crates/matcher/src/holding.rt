@@ -1,28 +1,23 @@
-ghost use Rattle.std.specs.Prelude.{◌≡◌, ◌-◌, ◌≤◌, [], length, take, drop, IfOk, vec_len};
+ghost use Rattle.std.specs.Prelude.{◌≡◌, [], length, IfOk, vec_len};
 ghost use Rattle.std.specs.Option.{option_map};
 ghost use Rattle.std.specs.List.{slice_get};
 ghost use Rattle.matcher.specs.Held.{arguments_of};
 
-use crate::arguments::{Arguments, TOKENS_LIMIT};
+use crate::arguments::{Arguments, Gathered, TOKENS_LIMIT};
 use crate::text::PARAMETERS_LIMIT;
 use std::alloc::{AllocError, Global};
 use tokens::Token;
-
-fn part(tokens: &[Token], from: usize, to: usize) -> &[Token]
-    requires { (from ≤ to) × (to ≤ length tokens.now) }
-    ensures { result.now ≡ take (to - from) (drop from tokens.now) }
-{
-    &tokens[from..to]
-}
 
 impl Arguments {
     // No arguments, and memory for those of any call.
     pub fn new(heap: Global) -> Result<Arguments, AllocError>
         ensures { IfOk result (λ a. arguments_of a ≡ []) }
     {
-        let tokens = Vec::with_capacity(heap, TOKENS_LIMIT)?;
+        let gathered = Gathered {
+            tokens: Vec::with_capacity(heap, TOKENS_LIMIT)?,
+        };
         let spans = Vec::with_capacity(heap, PARAMETERS_LIMIT)?;
-        Ok(Arguments { tokens, spans })
+        Ok(Arguments { gathered, spans })
     }
 
     // How many arguments there are.
@@ -37,16 +32,14 @@ impl Arguments {
         ensures { option_map (λ x. x.now) result ≡ slice_get (arguments_of self.now) n }
     {
         let span = self.spans.get(n)?;
-        let from = span.from;
-        let to = span.to;
-        Some(part(self.tokens.as_slice(), from, to))
+        self.gathered.tokens.as_slice().get(span.from..span.to)
     }
 
     pub(crate) fn clear(&mut self)
         ensures arguments { arguments_of self.new ≡ [] }
-        ensures empty { (vec_len self.new.tokens ≡ 0) × (vec_len self.new.spans ≡ 0) }
+        ensures empty { (vec_len self.new.gathered.tokens ≡ 0) × (vec_len self.new.spans ≡ 0) }
     {
         self.spans.clear();
-        self.tokens.clear();
+        self.gathered.tokens.clear();
     }
 }

@@ -38,7 +38,7 @@ pub(crate) fn settle(run: &[Token], delimiter: Delimiter<'_>, from: Mark) -> Opt
     ensures { MatchOption result (deeper 0 (settled_from (delimiter_in delimiter.entry.words.now) (take from.at run.now) (drop from.at run.now)) ≡ None) (λ m. Marked run.now from.at m × (settled_from (delimiter_in delimiter.entry.words.now) (take from.at run.now) (drop from.at run.now) ≡ take m.at run.now)) }
 {
     let mut mark = from;
-    let found = 'place: loop {
+    'place: loop {
         'delimiter: for (place, token) in run[mark.at..].iter().enumerate() {
             if mark.depth > 0 || !stands(delimiter, place, *token) {
                 let Some(next) = mark.moved(run[mark.at]) else {
@@ -49,6 +49,5 @@ pub(crate) fn settle(run: &[Token], delimiter: Delimiter<'_>, from: Mark) -> Opt
             }
         }
         break 'place Some(mark);
-    };
-    found
+    }
 }

@@ -1,4 +1,4 @@
-// Where an argument's tokens stand: from a place up to another.
+// Where an argument's tokens stand: from a place up to another. It is copied, as the library's range is not.
 #[derive(Clone, Copy)]
 pub(crate) struct Span {
     pub(crate) from: usize,

@@ -1,10 +1,12 @@
-ghost use Rattle.std.specs.Prelude.{◌≡◌, ◌+◌, ◌-◌, ◌≤◌, Bool, false, [], take, drop, IfOk, if◌then◌else◌, vec_len, vec_capacity, MatchResult, OnOk};
+ghost use Rattle.std.specs.Prelude.{◌≡◌, ◌+◌, ◌-◌, ◌≤◌, Bool, false, [], drop, IfOk, if◌then◌else◌, vec_len, MatchResult, OnOk};
 ghost use Rattle.names.specs.Spelled.{listed};
 ghost use Rattle.matching.specs.Braces.{is_open, is_blank};
 ghost use Rattle.matching.specs.Matching.{on, Progress, skipping, in_group, ended, feed};
 ghost use Rattle.matcher.specs.Going.{Leads, Fails};
+ghost use Rattle.matcher.specs.Held.{Kept};
 ghost use Rattle.matcher.specs.Hindering.{Under};
 
+use crate::arguments::Gathered;
 use crate::depths::{hindrance, passed};
 use crate::terms::Terms;
 use crate::tests::is_par;
@@ -38,29 +40,26 @@ fn group<S: Source>(
     categories: &[Category; 256],
     names: &mut Names,
     terms: Terms,
-    tokens: &mut Vec<Token>,
+    gathered: &mut Gathered,
 ) -> Result<(), MatcherCause>
-    requires held { vec_len tokens.old ≤ terms.counted }
+    requires held { vec_len gathered.old.tokens ≤ terms.counted }
     requires fits { terms.counted + 2 + terms.few ≤ 4096 }
-    requires room { 6145 ≤ vec_capacity tokens.old }
-    ensures goes { (p : Progress) → Under terms p → MatchResult result (λ _. Leads S.Source.reads S.Source.ahead S.Source.place categories.now terms.long (on (in_group p [])) (listed names.old) source.old (ended p (drop (vec_len tokens.old) tokens.new.items) (vec_len tokens.new - vec_len tokens.old + 2)) (listed names.new) source.new) (λ f. Fails S.Source.reads S.Source.ahead S.Source.place categories.now terms.long (on (in_group p [])) (listed names.old) source.old f (listed names.new) source.new) }
-    ensures fits { OnOk result (terms.counted + (vec_len tokens.new - vec_len tokens.old + 2) + terms.few ≤ 4096) }
-    ensures kept { take (vec_len tokens.old) tokens.new.items ≡ tokens.old.items }
-    ensures grown { vec_len tokens.old ≤ vec_len tokens.new }
-    ensures capacity { vec_capacity tokens.new ≡ vec_capacity tokens.old }
+    ensures goes { (p : Progress) → Under terms p → MatchResult result (λ _. Leads S.Source.reads S.Source.ahead S.Source.place categories.now terms.long (on (in_group p [])) (listed names.old) source.old (ended p (drop (vec_len gathered.old.tokens) gathered.new.tokens.items) (vec_len gathered.new.tokens - vec_len gathered.old.tokens + 2)) (listed names.new) source.new) (λ f. Fails S.Source.reads S.Source.ahead S.Source.place categories.now terms.long (on (in_group p [])) (listed names.old) source.old f (listed names.new) source.new) }
+    ensures fits { OnOk result (terms.counted + (vec_len gathered.new.tokens - vec_len gathered.old.tokens + 2) + terms.few ≤ 4096) }
+    ensures kept { Kept gathered.old.tokens gathered.new.tokens }
 {
-    let start = tokens.len();
+    let start = gathered.tokens.len();
     let mut depth = 0;
     'group: loop {
         let token = needed(source, categories, names)?;
         let Some(deeper) = passed(depth, token) else {
             return Ok(());
         };
-        let count = terms.counted + (tokens.len() - start + 3 + deeper) + terms.few;
+        let count = terms.counted + (gathered.tokens.len() - start + 3 + deeper) + terms.few;
         if let Some(refusal) = hindrance(terms.long, is_par(token), count) {
             return Err(MatcherCause::Matcher(refusal, source.place()));
         }
-        tokens.push_reserved(token);
+        gathered.tokens.push_reserved(token);
         depth = deeper;
     }
 }
@@ -79,16 +78,13 @@ pub(crate) fn undelimited<S: Source>(
     categories: &[Category; 256],
     names: &mut Names,
     terms: Terms,
-    tokens: &mut Vec<Token>,
+    gathered: &mut Gathered,
 ) -> Result<usize, MatcherCause>
-    requires held { vec_len tokens.old ≤ terms.counted }
+    requires held { vec_len gathered.old.tokens ≤ terms.counted }
     requires fits { terms.counted + terms.few ≤ 8192 }
-    requires room { 6145 ≤ vec_capacity tokens.old }
-    ensures goes { (p : Progress) → Under terms p → MatchResult result (λ n. Leads S.Source.reads S.Source.ahead S.Source.place categories.now terms.long (on (skipping p)) (listed names.old) source.old (ended p (drop (vec_len tokens.old) tokens.new.items) n) (listed names.new) source.new) (λ f. Fails S.Source.reads S.Source.ahead S.Source.place categories.now terms.long (on (skipping p)) (listed names.old) source.old f (listed names.new) source.new) }
-    ensures fits { IfOk result (λ n. (terms.counted + n + terms.few ≤ 4096) × (vec_len tokens.new ≤ vec_len tokens.old + n)) }
-    ensures kept { take (vec_len tokens.old) tokens.new.items ≡ tokens.old.items }
-    ensures grown { vec_len tokens.old ≤ vec_len tokens.new }
-    ensures capacity { vec_capacity tokens.new ≡ vec_capacity tokens.old }
+    ensures goes { (p : Progress) → Under terms p → MatchResult result (λ n. Leads S.Source.reads S.Source.ahead S.Source.place categories.now terms.long (on (skipping p)) (listed names.old) source.old (ended p (drop (vec_len gathered.old.tokens) gathered.new.tokens.items) n) (listed names.new) source.new) (λ f. Fails S.Source.reads S.Source.ahead S.Source.place categories.now terms.long (on (skipping p)) (listed names.old) source.old f (listed names.new) source.new) }
+    ensures fits { IfOk result (λ n. (terms.counted + n + terms.few ≤ 4096) × (vec_len gathered.new.tokens ≤ vec_len gathered.old.tokens + n)) }
+    ensures kept { Kept gathered.old.tokens gathered.new.tokens }
 {
     let token = unblanked(source, categories, names)?;
     if is_close(token) {
@@ -98,11 +94,11 @@ pub(crate) fn undelimited<S: Source>(
     if let Some(refusal) = hindrance(terms.long, is_par(token), count) {
         return Err(MatcherCause::Matcher(refusal, source.place()));
     }
-    let start = tokens.len();
+    let start = gathered.tokens.len();
     if is_open(token) {
-        group(source, categories, names, terms, tokens)?;
-        return Ok(tokens.len() - start + 2);
+        group(source, categories, names, terms, gathered)?;
+        return Ok(gathered.tokens.len() - start + 2);
     }
-    tokens.push_reserved(token);
+    gathered.tokens.push_reserved(token);
     Ok(1)
 }

@@ -5,7 +5,7 @@ use Rattle.matching.specs.declared.refusal.MatcherRefusal.TheVariants.{Unmatched
 use Rattle.matching.specs.Braces.{is_open, is_par}
 use Rattle.matching.specs.Matching.{ended, fewest}
 use Rattle.matcher.specs.Hindering.{hindrance}
-use Rattle.matcher.proofs.Buffers.{none_from, all_before, pushed_from, pushed_before}
+use Rattle.matcher.proofs.Buffers.{kept_longer, none_from, all_before, pushed_from, pushed_before}
 use Rattle.matcher.proofs.Going.{onward, turned, fails, refuses}
 use Rattle.matcher.proofs.Hindering.{by, unhindered}
 use Rattle.matcher.proofs.Skipping.{skip_closes, skip_next}
@@ -21,9 +21,7 @@ returns-in_err-token g c =
     record {
       goes = λ p u. rw (e.1, e.2) (t.goes c.args.terms.long p);
       fits = rw e.1 tt;
-      kept = all_before c.args.tokens.now _ refl;
-      grown = omega arith;
-      capacity = refl;
+      kept = all_before c.args.gathered.now.tokens _ refl;
     }
 
 pub returns-then-is_close : goal.returns-then-is_close
@@ -33,9 +31,7 @@ returns-then-is_close g c =
     record {
       goes = λ p u. rw c.place.ensures (refuses _ _ _ _ long Unmatched (k.goes long p) (skip_closes long p c.in_ok-token.token k.plain (sym c.if-is_close.ensures)));
       fits = tt;
-      kept = all_before c.args.tokens.now _ refl;
-      grown = omega arith;
-      capacity = refl;
+      kept = all_before c.args.gathered.now.tokens _ refl;
     }
 
 pub returns-in-Some : goal.returns-in-Some
@@ -49,15 +45,13 @@ returns-in-Some g c =
     record {
       goes = λ p u. rw c.place-in-Some.ensures (refuses _ _ _ _ long r (k.goes long p) (skip_next long p t k.plain (sym c.if-is_close.ensures) (is_open t) refl n (counts _ _ (is_open t) c.least.result p.counted (fewest p.later) u.0 u.1 c.least.ensures.value) ∙ ap (by _) bad));
       fits = tt;
-      kept = all_before c.args.tokens.now _ refl;
-      grown = omega arith;
-      capacity = refl;
+      kept = all_before c.args.gathered.now.tokens _ refl;
     }
 
 pub returns : goal.returns
 returns g c =
     let k = c.in_ok-token.ensures in
-    let v = c.args.tokens.now in
+    let v = c.args.gathered.now.tokens in
     let w = c.push_reserved.new.self in
     let long = c.args.terms.long in
     let t = c.in_ok-token.token in
@@ -71,16 +65,14 @@ returns g c =
       goes = λ p u. turned _ _ _ _ long (k.goes long p) (skip_next long p t k.plain (sym c.if-is_close.ensures) false shut n (omega (arith, u.0, u.1, one)) ∙ ap (by _) free ∙ ap (λ (xs : List Token). ended p xs 1) (sym e));
       fits = (omega (arith, ok.1, one), omega (arith, c.push_reserved.ensures.len));
       kept = pushed_before v w t (vec_len v) (omega arith) c.push_reserved.ensures.items ∙ all_before v _ refl;
-      grown = omega (arith, c.push_reserved.ensures.len);
-      capacity = c.push_reserved.ensures.capacity;
     }
 
 pub returns-then-is_open : goal.returns-then-is_open
 returns-then-is_open g c =
     let k = c.in_ok-token.ensures in
     let m = c.in_ok-group.ensures in
-    let v = c.args.tokens.now in
-    let w = c.group.new.tokens in
+    let v = c.args.gathered.now.tokens in
+    let w = c.group.new.gathered.tokens in
     let long = c.args.terms.long in
     let t = c.in_ok-token.token in
     let n : ℕ = c.args.terms.counted + c.least.result + c.args.terms.few in
@@ -92,10 +84,8 @@ returns-then-is_open g c =
       goes = λ p u.
           onward _ _ _ _ long (turned _ _ _ _ long (k.goes long p) (skip_next long p t k.plain (sym c.if-is_close.ensures) true shut n (omega (arith, u.0, u.1, two)) ∙ ap (by _) free))
           (turned _ _ _ _ long (m.goes p u) (ap (ended p (drop (vec_len v) (vec_items w))) e));
-      fits = (omega (arith, m.fits, e), omega (arith, m.grown, e));
+      fits = (omega (arith, m.fits, e), omega (arith, kept_longer v w m.kept, e));
       kept = m.kept;
-      grown = m.grown;
-      capacity = m.capacity;
     }
 
 pub returns-in_err-group : goal.returns-in_err-group
@@ -113,6 +103,4 @@ returns-in_err-group g c =
       goes = λ p u. rw (e.1, e.2) (fails _ _ _ _ long (turned _ _ _ _ long (k.goes long p) (skip_next long p t k.plain (sym c.if-is_close.ensures) true shut n (omega (arith, u.0, u.1, two)) ∙ ap (by _) free)) (m.goes p u));
       fits = rw e.1 tt;
       kept = m.kept;
-      grown = m.grown;
-      capacity = m.capacity;
     }

@@ -30,5 +30,5 @@ returns-clause-does g c =
     let e = c.assign_category.ensures in
     record {
       answer = search rules;
-      state = λ read. rw (category_read c.args.number y _ c.in-Ok.ensures, e.state, c.clear.ensures) (recorded_done s (reader s.stands read) s.stands sc (Code x y) (after_code sc x y s.book) (code_answer sc x y s.book) (search rules)).1;
+      state = λ read. rw (category_read c.args.number y _ c.in-Ok.ensures, e.state, c.clear.ensures) (recorded_done s (reader s.stands read) s.stands sc (Code x y) (after_code sc x y s.book) (code_answer sc x y s.book) (search rules));
     }
