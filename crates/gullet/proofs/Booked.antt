@@ -1,20 +1,15 @@
 -- A group or an assignment, by what the book answers.
-use Rattle.std.proofs.Common.{◌≡◌, ℕ, false, [], Ok, Err, Result, IsErr, is_ok, refl, ap, arith}
+use Rattle.std.proofs.Common.{◌≡◌, false, [], Ok, Err, Result, IsErr, is_ok, refl, ap}
 use Rattle.tokens.specs.declared.answer.Answer.{Answer}
-use Rattle.tokens.specs.declared.answer.Answer.TheVariants.{Assigned}
 use Rattle.tokens.specs.declared.answer.Entry.{Entry}
 use Rattle.tokens.specs.declared.answer.Scope.{Scope}
-use Rattle.sources.specs.declared.fault.Place.{Place}
-use Rattle.driving.specs.declared.status.Status.TheVariants.{Normal}
 use Rattle.book.specs.declared.fault.BookFault.{BookFault}
 use Rattle.book.specs.Books.{BookState, after}
 use Rattle.rules.specs.Assigning.{recorded_as}
 use Rattle.rules.specs.Readers.{Position, Reader}
-use Rattle.rules.specs.Refusals.{book}
 use Rattle.rules.specs.States.{State, state, at}
 use Rattle.rules.specs.Stepping.{grouped}
 use Rattle.gullet.specs.declared.fault.GulletFault.{GulletFault}
-use Rattle.gullet.specs.Faults.{fault_at, placed}
 use Rattle.gullet.specs.States.{cleared}
 
 module _ (s : State) (r : Reader) (a : Answer) where

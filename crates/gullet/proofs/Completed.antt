@@ -5,9 +5,6 @@ use Rattle.tokens.specs.declared.token.Token.{Token}
 use Rattle.tokens.specs.declared.answer.Answer.{Answer}
 use Rattle.tokens.specs.declared.answer.Answer.TheVariants.{Working}
 use Rattle.sources.specs.declared.fault.Place.{Place}
-use Rattle.sources.specs.declared.fault.PileFault.{PileFault}
-use Rattle.sources.specs.declared.fault.PileFault.TheVariants as piles
-use Rattle.driving.specs.declared.status.Status.TheVariants.{Normal}
 use Rattle.pending.specs.declared.conditional.Part.{Part}
 use Rattle.pending.specs.declared.stack.Stack.{Stack}
 use Rattle.pending.specs.declared.task.Task.{Task}
@@ -19,7 +16,6 @@ use Rattle.rules.specs.Readers as readers
 use Rattle.rules.specs.Readers.{Reader}
 use Rattle.rules.specs.States.{State, state, completed_by}
 use Rattle.gullet.specs.declared.fault.GulletFault.{GulletFault}
-use Rattle.gullet.specs.declared.fault.Cause.TheVariants.{Pile}
 use Rattle.gullet.specs.Faults.{placed}
 
 module _ (s : State) (r : Reader) (cs : List Part) (p : Place) where

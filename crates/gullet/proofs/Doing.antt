@@ -21,7 +21,7 @@ use Rattle.gullet.specs.Does.{at_start, Does}
 use Rattle.gullet.specs.Faults.{fault_at, placed}
 use Rattle.gullet.specs.Fed.{position_of}
 use Rattle.gullet.specs.Passing.{under}
-use Rattle.gullet.specs.States.{state_of, place_of, cleared}
+use Rattle.gullet.specs.States.{state_of, place_of}
 use Rattle.gullet.proofs.Passed.{went_on, broke_answer, broke_state, ok_under, err_under}
 
 -- a rule that is fed tokens, and what becomes of its outcome

@@ -1,5 +1,5 @@
 -- What comes of reading by a rule, by what was answered of it.
-use Rattle.std.proofs.Common.{◌≡◌, ℕ, [], Some, None, Ok, Err, Option, Result, MatchOption, sym, refl, ap, ◌∙◌, arith}
+use Rattle.std.proofs.Common.{◌≡◌, ℕ, [], Some, None, Ok, Err, Option, Result, MatchOption, refl, ap}
 use Rattle.tokens.specs.declared.token.Token.{Token}
 use Rattle.tokens.specs.declared.answer.Scope.{Scope}
 use Rattle.tokens.specs.declared.answer.Entry.TheVariants.{Name}
@@ -12,7 +12,7 @@ use Rattle.driving.specs.declared.status.Status.TheVariants.{Normal}
 use Rattle.driving.specs.Drives.{Driven, came, ended, failed, stands_at, answer_of}
 use Rattle.rules.specs.Assigning.{named_by, let_as}
 use Rattle.rules.specs.declared.refusal.GulletRefusal.TheVariants.{BadDefinition}
-use Rattle.rules.specs.Readers.{Reader, reader}
+use Rattle.rules.specs.Readers.{Reader}
 use Rattle.rules.specs.Refusals.{read, pile, gullet}
 use Rattle.rules.specs.States.{State, state, at, Stepped, finished, meanings_of}
 use Rattle.rules.specs.Tokens.{meaning}

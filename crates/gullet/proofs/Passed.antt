@@ -1,8 +1,7 @@
 -- Rules fed by a gullet, and what comes of conditionals.
-use Rattle.std.proofs.Common.{◌≡◌, ℕ, ◌<◌, Bool, true, false, leb, List, [], ◌∷◌, length, Some, None, Ok, Err, Option, Result, MatchResult, refl, ap, ◌∙◌, subst, arith}
+use Rattle.std.proofs.Common.{◌≡◌, ℕ, ◌<◌, Bool, true, false, leb, List, [], ◌∷◌, length, Some, None, Ok, Err, Option, Result, MatchResult, refl, ap, ◌∙◌, arith}
 use Rattle.std.proofs.lemmas.Bool.{lt-ltb}
 use Rattle.tokens.specs.declared.token.Token.{Token}
-use Rattle.tokens.specs.declared.answer.Answer.{Answer}
 use Rattle.tokens.specs.declared.answer.Answer.TheVariants.{Working}
 use Rattle.matching.specs.Matching.{on}
 use Rattle.sources.specs.declared.fault.Place.{Place}
@@ -18,12 +17,12 @@ use Rattle.pending.specs.declared.task.Task.TheVariants.{After}
 use Rattle.pending.specs.Fronts.{front, behind, joining}
 use Rattle.piles.specs.Inserting as put
 use Rattle.piles.specs.Inserting.{Put, put_back}
-use Rattle.rules.specs.declared.refusal.GulletRefusal.TheVariants.{Misplaced, TasksFull, ConditionalsFull}
+use Rattle.rules.specs.declared.refusal.GulletRefusal.TheVariants.{Misplaced, ConditionalsFull}
 use Rattle.rules.specs.declared.phases.Until.TheVariants.{ElseOrFi, OnlyFi}
 use Rattle.rules.specs.declared.phases.Found.{Found}
 use Rattle.rules.specs.declared.phases.Found.TheVariants as found
 use Rattle.rules.specs.Expanding.{one_feed, expand_after, skipped_to, decided, unless_open, at_else_of, at_fi_of}
-use Rattle.rules.specs.Readers.{Reader, reader}
+use Rattle.rules.specs.Readers.{Reader}
 use Rattle.rules.specs.Refusals.{gullet}
 use Rattle.rules.specs.States.{State, state, Stepped, ends, refuse, at, completed, completed_by, finished, ahead}
 use Rattle.gullet.specs.declared.fault.Cause.TheVariants.{Pile}

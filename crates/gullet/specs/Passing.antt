@@ -2,15 +2,13 @@
 --   under      what is answered of a rule fed under a status, where the place is then p
 --   skipping   a skip
 --   turn_at    what becomes of the open conditionals where a skip ends
-use Rattle.std.specs.Prelude.{Bool, true, false, Some, None, Ok, Err, Option, Result}
+use Rattle.std.specs.Prelude.{Ok, Err, Result}
 use Rattle.matching.specs.Matching.{on}
 use Rattle.sources.specs.declared.fault.Place.{Place}
 use Rattle.sources.specs.declared.fault.PileRefusal.TheVariants.{Ended}
 use Rattle.sources.specs.declared.fault.PileFault.TheVariants as piles
 use Rattle.driving.specs.declared.status.Status.{Status}
 use Rattle.driving.specs.Drives.{Driven, came, ended, failed, drive}
-use Rattle.pending.specs.declared.conditional.Part.{Part}
-use Rattle.pending.specs.declared.conditional.Part.TheVariants.{First, Second}
 use Rattle.rules.specs.declared.phases.Until.{Until}
 use Rattle.rules.specs.declared.phases.Found.{Found}
 use Rattle.rules.specs.declared.phases.Found.TheVariants as found

@@ -1,4 +1,4 @@
-use Rattle.std.proofs.Common.{◌≡◌, ◌<◌, List, [], length, sym, ap, ◌∙◌, subst}
+use Rattle.std.proofs.Common.{◌<◌, List, [], length, sym, ap, ◌∙◌, subst}
 use Rattle.driving.specs.declared.status.Status.TheVariants.{Skipping}
 use Rattle.pending.specs.declared.conditional.Part.{Part}
 use Rattle.rules.specs.declared.phases.Until.TheVariants.{ElseOrFi}

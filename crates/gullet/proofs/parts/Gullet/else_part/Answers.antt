@@ -1,4 +1,4 @@
-use Rattle.std.proofs.Common.{rules, ◌≡◌, true, [], sym, refl, ap, ◌∙◌}
+use Rattle.std.proofs.Common.{rules, ◌≡◌, true, [], sym, refl, ◌∙◌}
 use Rattle.driving.specs.declared.status.Status.TheVariants.{Skipping}
 use Rattle.pending.specs.Fronts.{front, behind}
 use Rattle.rules.specs.declared.phases.Until.TheVariants.{OnlyFi}

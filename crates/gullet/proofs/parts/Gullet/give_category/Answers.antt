@@ -1,4 +1,4 @@
-use Rattle.std.proofs.Common.{is_ok, rules, Some, sym, ap, ◌∙◌}
+use Rattle.std.proofs.Common.{is_ok, rules, ap, ◌∙◌}
 use Rattle.tokens.specs.declared.answer.Entry.TheVariants.{Code}
 use Rattle.book.specs.Books.{code_answer, after_code, coding}
 use Rattle.book.specs.Said.{book_of}

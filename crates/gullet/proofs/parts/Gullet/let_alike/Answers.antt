@@ -4,7 +4,7 @@ use Rattle.tokens.specs.declared.token.Token.{Token}
 use Rattle.book.specs.Books.{BookState}
 use Rattle.driving.specs.declared.status.Status.TheVariants.{Normal}
 use Rattle.rules.specs.Assigning.{named_by}
-use Rattle.rules.specs.Readers.{Reader, reader}
+use Rattle.rules.specs.Readers.{reader}
 use Rattle.rules.specs.States.{State, state, categories_of}
 use Rattle.gullet.specs.Fed.{Onward}
 use Rattle.gullet.specs.States.{state_of}

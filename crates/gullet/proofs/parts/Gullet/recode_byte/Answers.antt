@@ -1,4 +1,4 @@
-use Rattle.std.proofs.Common.{◌≡◌, ℕ, Some, None, Option, sym, refl, rules}
+use Rattle.std.proofs.Common.{◌≡◌, ℕ, Some, None, Option, refl, rules}
 use Rattle.tokens.specs.declared.token.Token.{Token}
 use Rattle.matching.specs.Matching.{on}
 use Rattle.driving.specs.Drives.{Driven, drive}
@@ -6,7 +6,7 @@ use Rattle.rules.specs.declared.phases.Number.TheVariants.{BeforeNumber}
 use Rattle.rules.specs.declared.refusal.GulletRefusal.TheVariants.{BadCatcode}
 use Rattle.rules.specs.Assigning.{number_feed, recoded_by}
 use Rattle.rules.specs.Readers.{Reader}
-use Rattle.rules.specs.States.{State, Stepped, ahead}
+use Rattle.rules.specs.States.{State, ahead}
 use Rattle.gullet.proofs.Doing.{missing, present, does_refuse, fed_then, fed_short}
 use Rattle.gullet.proofs.Recoded.{recoded_same}
 use Rattle.gullet.proofs.parts.Gullet.recode_byte.Goals as goal
