@@ -1,5 +1,5 @@
 -- What comes of reading by a rule, by what was answered of it.
-use Rattle.std.proofs.Common.{◌≡◌, ℕ, [], Some, None, Ok, Err, Option, Result, sym, refl, ap, ◌∙◌, arith}
+use Rattle.std.proofs.Common.{◌≡◌, ℕ, [], Some, None, Ok, Err, Option, Result, MatchOption, refl, ap}
 use Rattle.tokens.specs.declared.token.Token.{Token}
 use Rattle.tokens.specs.declared.answer.Scope.{Scope}
 use Rattle.tokens.specs.declared.answer.Entry.TheVariants.{Name}
@@ -12,64 +12,51 @@ use Rattle.driving.specs.declared.status.Status.TheVariants.{Normal}
 use Rattle.driving.specs.Drives.{Driven, came, ended, failed, stands_at, answer_of}
 use Rattle.rules.specs.Assigning.{named_by, let_as}
 use Rattle.rules.specs.declared.refusal.GulletRefusal.TheVariants.{BadDefinition}
-use Rattle.rules.specs.Readers.{Reader, reader}
+use Rattle.rules.specs.Readers.{Reader}
 use Rattle.rules.specs.Refusals.{read, pile, gullet}
 use Rattle.rules.specs.States.{State, state, at, Stepped, finished, meanings_of}
 use Rattle.rules.specs.Tokens.{meaning}
 use Rattle.gullet.specs.declared.fault.Cause.TheVariants.{Pile}
 use Rattle.gullet.specs.declared.fault.GulletFault.{GulletFault}
 use Rattle.gullet.specs.Faults.{fault_at, placed}
+use Rattle.gullet.specs.Passing.{under}
 use Rattle.gullet.specs.Targets.{name_from, target_of, let_ahead, let_named}
 use Rattle.gullet.proofs.Booked.{recorded_same}
 
 abbrev pub at_pile : {A : Type 0} → PileFault → Result A GulletFault
 at_pile f = Err (record { cause = Pile f; status = Normal })
 
-module _ {O : Type 0} (s : State) (p : Place) (end : O → Reader → Stepped) where
-  pub came_ends : (d : Driven O Reader) (o : O) → Ok o ≡ answer_of p d → end o (stands_at d) ≡ finished s Normal d end
-  came_ends (came x r) o e = let k : o ≡ x = cc in ap (λ (y : O). end y r) k
-  came_ends (ended r) o e = let z : ◌≡◌ {A = ℕ} 0 1 = cc in absurd (omega arith)
-  came_ends (failed x r) o e = let z : ◌≡◌ {A = ℕ} 0 1 = cc in absurd (omega arith)
-
-  pub short_ends : (d : Driven O Reader) (f : PileFault) → Err f ≡ answer_of p d
-      → (at_pile f ≡ placed p (finished s Normal d end).answer) × (state (stands_at d).stands s.book s.conditionals [] ≡ (finished s Normal d end).state)
-  short_ends (came x r) f e = let z : ◌≡◌ {A = ℕ} 0 1 = cc in absurd (omega arith)
-  short_ends (ended r) f e = let k : f ≡ piles.Pile Ended p = cc in (ap at_pile k, refl)
-  short_ends (failed x r) f e = let k : f ≡ piles.Line (record { refusal = x; place = p }) = cc in (ap at_pile k, refl)
-
 module _ (p : Place) where
   pub target_came : (d : Driven (Option ℕ) Reader) (o : Option ℕ) → Ok o ≡ answer_of p d → name_from o ≡ target_of d
   target_came (came x r) o e = let k : o ≡ x = cc in ap name_from k
-  target_came (ended r) o e = let z : ◌≡◌ {A = ℕ} 0 1 = cc in absurd (omega arith)
-  target_came (failed x r) o e = let z : ◌≡◌ {A = ℕ} 0 1 = cc in absurd (omega arith)
-
-  pub target_is : (d : Driven (Option ℕ) Reader) (o w : Option ℕ) → o ≡ w → Ok o ≡ answer_of p d → placed p (name_from w) ≡ placed p (target_of d)
-  target_is d o w k e = ap (λ (x : Option ℕ). placed p (name_from x)) (sym k) ∙ ap (placed p) (target_came d o e)
+  target_came (ended r) o e = cc
+  target_came (failed x r) o e = cc
 
   pub target_short : (d : Driven (Option ℕ) Reader) (f : PileFault) → Err f ≡ answer_of p d → at_pile f ≡ placed p (target_of d)
-  target_short (came x r) f e = let z : ◌≡◌ {A = ℕ} 0 1 = cc in absurd (omega arith)
+  target_short (came x r) f e = cc
   target_short (ended r) f e = let k : f ≡ piles.Pile Ended p = cc in ap at_pile k
   target_short (failed x r) f e = let k : f ≡ piles.Line (record { refusal = x; place = p }) = cc in ap at_pile k
 
+-- the name, or the refusal where it is missing
+pub name_found : (p : Place) (o : Option ℕ) (x : Result ℕ GulletFault) → MatchOption o (x ≡ Err (fault_at p (record { cause = gullet BadDefinition; status = Normal }))) (λ n. x ≡ Ok n) → x ≡ placed p (name_from o)
+name_found p None x h = h
+name_found p (Some n) x h = h
+
 module _ (s : State) (p : Place) (more : ℕ → Reader → Stepped) where
-  pub named_came : (d : Driven (Option ℕ) Reader) (n : ℕ) → Ok n ≡ placed p (target_of d) → more n (stands_at d) ≡ finished s Normal d (named_by s more)
-  named_came (came (Some m) r) n e = let k : n ≡ m = cc in ap (λ (y : ℕ). more y r) k
-  named_came (came None r) n e = let z : ◌≡◌ {A = ℕ} 0 1 = cc in absurd (omega arith)
-  named_came (ended r) n e = let z : ◌≡◌ {A = ℕ} 0 1 = cc in absurd (omega arith)
-  named_came (failed x r) n e = let z : ◌≡◌ {A = ℕ} 0 1 = cc in absurd (omega arith)
+  pub named_under : (d : Driven (Option ℕ) Reader) (n : ℕ) → Ok n ≡ placed p (target_of d) → Ok (Some n) ≡ under Normal p d
+  named_under (came (Some m) r) n e = let k : n ≡ m = cc in ap (λ (y : ℕ). Ok (Some y)) k
+  named_under (came None r) n e = cc
+  named_under (ended r) n e = cc
+  named_under (failed x r) n e = cc
 
   pub named_refused : (d : Driven (Option ℕ) Reader) (f : GulletFault) → Err f ≡ placed p (target_of d)
       → (Err f ≡ placed p (finished s Normal d (named_by s more)).answer) × (state (stands_at d).stands s.book s.conditionals [] ≡ (finished s Normal d (named_by s more)).state)
-  named_refused (came (Some m) r) f e = let z : ◌≡◌ {A = ℕ} 0 1 = cc in absurd (omega arith)
+  named_refused (came (Some m) r) f e = cc
   named_refused (came None r) f e = let k : f ≡ fault_at p (record { cause = gullet BadDefinition; status = Normal }) = cc in (ap (λ (y : GulletFault). Err y) k, refl)
   named_refused (ended r) f e = let k : f ≡ fault_at p (record { cause = pile Ended; status = Normal }) = cc in (ap (λ (y : GulletFault). Err y) k, refl)
   named_refused (failed x r) f e = let k : f ≡ fault_at p (record { cause = read x; status = Normal }) = cc in (ap (λ (y : GulletFault). Err y) k, refl)
 
--- a rule that does not look at where reading stood before goes on from where it stands now
-pub onto : (R : State → Reader → Stepped) → ((s : State) (q r : Reader) → R (at s q) r ≡ R s r)
-    → (s now : State) (q : Reader) → now ≡ at s q → R now (reader now.stands q.read) ≡ R s q
-onto R same s now q e = ap (λ (x : State). R x (reader x.stands q.read)) e ∙ same s q q
-
+-- where reading stood before does not matter
 pub let_same : (n : ℕ) (sc : Scope) (t : Token) (s : State) (q r : Reader) → let_as (at s q) n sc t r ≡ let_as s n sc t r
 let_same n sc t s q r =
     let m = meaning (meanings_of s.book) t in

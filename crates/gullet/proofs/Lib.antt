@@ -4,6 +4,7 @@ mod Puts
 mod Completed
 mod Agreeing
 mod Passed
+mod Doing
 mod Booked
 mod Finished
 mod Recoded

@@ -1,8 +1,7 @@
 -- Rules fed by a gullet, and what comes of conditionals.
-use Rattle.std.proofs.Common.{◌≡◌, ℕ, ◌<◌, Bool, true, false, leb, List, [], ◌∷◌, length, Ok, Err, Result, refl, ap, ◌∙◌, subst, arith}
+use Rattle.std.proofs.Common.{◌≡◌, ℕ, ◌<◌, Bool, true, false, leb, List, [], ◌∷◌, length, Some, None, Ok, Err, Option, Result, MatchResult, refl, ap, ◌∙◌, arith}
 use Rattle.std.proofs.lemmas.Bool.{lt-ltb}
 use Rattle.tokens.specs.declared.token.Token.{Token}
-use Rattle.tokens.specs.declared.answer.Answer.{Answer}
 use Rattle.tokens.specs.declared.answer.Answer.TheVariants.{Working}
 use Rattle.matching.specs.Matching.{on}
 use Rattle.sources.specs.declared.fault.Place.{Place}
@@ -18,65 +17,67 @@ use Rattle.pending.specs.declared.task.Task.TheVariants.{After}
 use Rattle.pending.specs.Fronts.{front, behind, joining}
 use Rattle.piles.specs.Inserting as put
 use Rattle.piles.specs.Inserting.{Put, put_back}
-use Rattle.rules.specs.declared.refusal.GulletRefusal.TheVariants.{Misplaced, TasksFull, ConditionalsFull}
+use Rattle.rules.specs.declared.refusal.GulletRefusal.TheVariants.{Misplaced, ConditionalsFull}
 use Rattle.rules.specs.declared.phases.Until.TheVariants.{ElseOrFi, OnlyFi}
 use Rattle.rules.specs.declared.phases.Found.{Found}
 use Rattle.rules.specs.declared.phases.Found.TheVariants as found
 use Rattle.rules.specs.Expanding.{one_feed, expand_after, skipped_to, decided, unless_open, at_else_of, at_fi_of}
-use Rattle.rules.specs.Readers.{Reader, reader}
+use Rattle.rules.specs.Readers.{Reader}
 use Rattle.rules.specs.Refusals.{gullet}
 use Rattle.rules.specs.States.{State, state, Stepped, ends, refuse, at, completed, completed_by, finished, ahead}
 use Rattle.gullet.specs.declared.fault.Cause.TheVariants.{Pile}
 use Rattle.gullet.specs.declared.fault.GulletFault.{GulletFault}
 use Rattle.gullet.specs.declared.turn.Turn.TheVariants.{Begin}
 use Rattle.gullet.specs.Faults.{placed}
-use Rattle.gullet.specs.Passing.{under, skipping, turn_at, is_first}
+use Rattle.gullet.specs.Passing.{under, skipping, turn_at}
 use Rattle.gullet.specs.Turns.{turned}
 
 -- what is answered of a rule, by the pile's answer
 module _ {O B : Type 0} (st : Status) (p : Place) where
   pub ok_under : (d : Driven O B) (o : O) → Ok o ≡ answer_of p d → Ok o ≡ under st p d
   ok_under (came k b) o e = let h : o ≡ k = cc in ap Ok h
-  ok_under (ended b) o e = let z : ◌≡◌ {A = ℕ} 0 1 = cc in absurd (omega arith)
-  ok_under (failed k b) o e = let z : ◌≡◌ {A = ℕ} 0 1 = cc in absurd (omega arith)
+  ok_under (ended b) o e = cc
+  ok_under (failed k b) o e = cc
 
   pub err_under : (d : Driven O B) (f : PileFault) → Err f ≡ answer_of p d → Err (record { cause = Pile f; status = st }) ≡ under st p d
-  err_under (came k b) f e = let z : ◌≡◌ {A = ℕ} 0 1 = cc in absurd (omega arith)
+  err_under (came k b) f e = cc
   err_under (ended b) f e = let h : f ≡ piles.Pile Ended p = cc in ap (λ (x : PileFault). Err (record { cause = Pile x; status = st })) h
   err_under (failed k b) f e = let h : f ≡ piles.Line (record { refusal = k; place = p }) = cc in ap (λ (x : PileFault). Err (record { cause = Pile x; status = st })) h
+
+  pub under_from : (d : Driven O B) (x : Result O PileFault) (y : Result O GulletFault) → MatchResult x (λ o. y ≡ Ok o) (λ f. y ≡ Err (record { cause = Pile f; status = st })) → x ≡ answer_of p d → y ≡ under st p d
+  under_from d (Ok o) y h e = h ∙ ok_under d o e
+  under_from d (Err f) y h e = h ∙ err_under d f e
 
 -- what the rules make of it
 module _ {O : Type 0} (s : State) (st : Status) (p : Place) (end : O → Reader → Stepped) where
   pub went_on : (d : Driven O Reader) (o : O) → Ok o ≡ under st p d → finished s st d end ≡ end o (stands_at d)
   went_on (came k b) o e = let h : k ≡ o = cc in ap (λ (x : O). end x b) h
-  went_on (ended b) o e = let z : ◌≡◌ {A = ℕ} 0 1 = cc in absurd (omega arith)
-  went_on (failed k b) o e = let z : ◌≡◌ {A = ℕ} 0 1 = cc in absurd (omega arith)
+  went_on (ended b) o e = cc
+  went_on (failed k b) o e = cc
 
   pub broke_answer : (d : Driven O Reader) (f : GulletFault) → Err f ≡ under st p d → Err f ≡ placed p (finished s st d end).answer
-  broke_answer (came k b) f e = let z : ◌≡◌ {A = ℕ} 0 1 = cc in absurd (omega arith)
+  broke_answer (came k b) f e = cc
   broke_answer (ended b) f e = let h : f ≡ record { cause = Pile (piles.Pile Ended p); status = st } = cc in ap Err h
   broke_answer (failed k b) f e = let h : f ≡ record { cause = Pile (piles.Line (record { refusal = k; place = p })); status = st } = cc in ap Err h
 
   pub broke_state : (d : Driven O Reader) (f : GulletFault) → Err f ≡ under st p d → state (stands_at d).stands s.book s.conditionals [] ≡ (finished s st d end).state
-  broke_state (came k b) f e = let z : ◌≡◌ {A = ℕ} 0 1 = cc in absurd (omega arith)
+  broke_state (came k b) f e = cc
   broke_state (ended b) f e = refl
   broke_state (failed k b) f e = refl
 
 -- a rule that goes on elsewhere, of a state that differs in where reading stands
-module _ (rule : State → Reader → Stepped) (s z : State) (q : Reader) (same : rule (at s q) q ≡ rule s q) (k : z ≡ at s q) where
-  pub rests_answer : (p : Place) (x : Result Answer GulletFault) → ((read : List Token) → x ≡ placed p (rule z (reader z.stands read)).answer) → x ≡ placed p (rule s q).answer
-  rests_answer p x f =
-      subst (λ (y : State). x ≡ placed p (rule y (reader y.stands q.read)).answer) k (f q.read) ∙ ap (λ (y : Stepped). placed p y.answer) same
-
-  pub rests_state : (w : State) → ((read : List Token) → w ≡ (rule z (reader z.stands read)).state) → w ≡ (rule s q).state
-  rests_state w f = subst (λ (y : State). w ≡ (rule y (reader y.stands q.read)).state) k (f q.read) ∙ ap (λ (y : Stepped). y.state) same
-
 elsewhere_by : (s : State) (q r : Reader) (cs : List Part) (x : Put) → completed_by (at s q) r cs x ≡ completed_by s r cs x
 elsewhere_by s q r cs (put.put h) = refl
 elsewhere_by s q r cs (put.refused e) = refl
 
 pub elsewhere : (s : State) (q r : Reader) (cs : List Part) (ts : List Token) → completed (at s q) r cs ts ≡ completed s r cs ts
 elsewhere s q r cs ts = elsewhere_by s q r cs (put_back _ r.stands.held)
+
+-- whether a conditional is open in its first part
+abbrev pub is_first : Option Part → Bool
+is_first None = false
+is_first (Some First) = true
+is_first (Some Second) = false
 
 -- a \fi
 module _ (s : State) (r : Reader) where
@@ -89,15 +90,10 @@ module _ (s : State) (r : Reader) where
   fi_closes (c ∷ cs) h = refl
 
   -- an \else
-  pub else_refused : (cs : List Part) → is_first (front cs) ≡ false → at_else_of s r cs ≡ refuse s r Normal (gullet Misplaced)
-  else_refused [] e = refl
-  else_refused (First ∷ cs) e = let z : ◌≡◌ {A = ℕ} 0 1 = cc in absurd (omega arith)
-  else_refused (Second ∷ cs) e = refl
-
   pub else_skips : (cs : List Part) → is_first (front cs) ≡ true → at_else_of s r cs ≡ finished s Skipping (skipping s r OnlyFi) (λ o q. completed s q (behind cs) [])
-  else_skips [] e = let z : ◌≡◌ {A = ℕ} 0 1 = cc in absurd (omega arith)
+  else_skips [] e = cc
   else_skips (First ∷ cs) e = refl
-  else_skips (Second ∷ cs) e = let z : ◌≡◌ {A = ℕ} 0 1 = cc in absurd (omega arith)
+  else_skips (Second ∷ cs) e = cc
 
 -- one more conditional finds room
 pub joins : {X : Type 0} (n : ℕ) (x : X) (xs : List X) → length xs < n → joining n x xs ≡ x ∷ xs
@@ -110,9 +106,6 @@ module _ (s : State) (r : Reader) where
 
   pub after_reads : leb 64 (length s.tasks) ≡ false → expand_after s r ≡ finished s Normal (drive one_feed (on tt) r (ahead s r)) after_one
   after_reads e = rw e
-
-  pub after_refused : leb 64 (length s.tasks) ≡ true → expand_after s r ≡ refuse s r Normal (gullet TasksFull)
-  after_refused e = rw e
 
 -- a conditional is decided
 module _ (s : State) (few : length s.conditionals < 100) where
@@ -127,9 +120,12 @@ pub decided_false : (s : State) (b : Bool) (r : Reader) → b ≡ false → deci
 decided_false s b r e = rw e
 
 -- and elsewhere, in the same way
+pub skipped_elsewhere : (s : State) (q r : Reader) (o : Found) → skipped_to (at s q) o r ≡ skipped_to s o r
+skipped_elsewhere s q r found.Else = elsewhere s q r (Second ∷ s.conditionals) []
+skipped_elsewhere s q r found.Fi = elsewhere s q r s.conditionals []
+
 finished_elsewhere : (s : State) (q : Reader) (d : Driven Found Reader) → finished (at s q) Skipping d (skipped_to (at s q)) ≡ finished s Skipping d (skipped_to s)
-finished_elsewhere s q (came found.Else r) = elsewhere s q r (Second ∷ s.conditionals) []
-finished_elsewhere s q (came found.Fi r) = elsewhere s q r s.conditionals []
+finished_elsewhere s q (came o r) = skipped_elsewhere s q r o
 finished_elsewhere s q (ended r) = refl
 finished_elsewhere s q (failed e r) = refl
 

@@ -1,7 +1,9 @@
 -- A code's new category, with the token behind the digits put back or not.
-use Rattle.std.proofs.Common.{◌≡◌, ℕ, Bool, true, false, cond, List, [], ◌∷◌, Some, None, Ok, Err, Option, Result, refl, ap, arith}
+use Rattle.std.proofs.Common.{◌≡◌, ℕ, Bool, true, false, cond, List, [], ◌∷◌, Some, None, Ok, Err, Option, Result, refl, ap}
+use Rattle.std.specs.Option.{ok_or}
 use Rattle.tokens.specs.declared.token.Token.{Token}
 use Rattle.tokens.specs.declared.category.Category.{Category}
+use Rattle.tokens.specs.declared.unknown.Unknown.{Unknown}
 use Rattle.tokens.specs.declared.answer.Answer.{Answer}
 use Rattle.tokens.specs.declared.answer.Entry.{Entry}
 use Rattle.tokens.specs.declared.answer.Entry.TheVariants.{Code}
@@ -24,6 +26,14 @@ use Rattle.gullet.specs.declared.fault.GulletFault.{GulletFault}
 use Rattle.gullet.specs.Faults.{placed}
 use Rattle.gullet.proofs.Booked.{recorded_same}
 
+-- the category that was read from a number
+pub category_read : (n : ℕ) (c : Category) (u : Unknown) → Ok c ≡ ok_or (category_of n) u → category_of n ≡ Some c
+category_read n c u e = go (category_of n) e
+  where
+    go : (o : Option Category) → Ok c ≡ ok_or o u → o ≡ Some c
+    go None e = cc
+    go (Some d) e = let k : d ≡ c = cc in ap Some k
+
 module _ (s : State) (r : Reader) (sc : Scope) (p : Place) (f : List Token → List Token) where
   abbrev over : State → State
   over z = state (put z.stands (f z.stands.held)) z.book z.conditionals z.tasks
@@ -35,16 +45,16 @@ module _ (s : State) (r : Reader) (sc : Scope) (p : Place) (f : List Token → L
       → z ≡ (recorded_as s r r.stands sc n b x).state
       → (Ok a ≡ placed p (recorded_as s r back sc n b x).answer) × (over z ≡ (recorded_as s r back sc n b x).state)
   recorded_over n b (Ok _) a z e h = (e, ap over h)
-  recorded_over n b (Err g) a z e h = let w : ◌≡◌ {A = ℕ} 0 1 = cc in absurd (omega arith)
+  recorded_over n b (Err g) a z e h = cc
 
   recorded_not : (n : Entry) (b : BookState) (x : Result (Unit {0}) BookFault) (g : GulletFault) → Err g ≡ placed p (recorded_as s r r.stands sc n b x).answer
       → recorded_as s r r.stands sc n b x ≡ recorded_as s r back sc n b x
-  recorded_not n b (Ok _) g e = let w : ◌≡◌ {A = ℕ} 0 1 = cc in absurd (omega arith)
+  recorded_not n b (Ok _) g e = cc
   recorded_not n b (Err h) g e = refl
 
   pub recoded_over_lem : (x : ℕ) (o : Option Category) (a : Answer) (z : State) → Ok a ≡ placed p (recoded_as s x sc r r.stands o).answer → z ≡ (recoded_as s x sc r r.stands o).state
       → (Ok a ≡ placed p (recoded_as s x sc r back o).answer) × (over z ≡ (recoded_as s x sc r back o).state)
-  recoded_over_lem x None a z e h = let w : ◌≡◌ {A = ℕ} 0 1 = cc in absurd (omega arith)
+  recoded_over_lem x None a z e h = cc
   recoded_over_lem x (Some c) a z e h = recorded_over (Code x c) (after_code sc x c s.book) (code_answer sc x c s.book) a z e h
 
   pub recoded_not : (x : ℕ) (o : Option Category) (g : GulletFault) → Err g ≡ placed p (recoded_as s x sc r r.stands o).answer

@@ -6,4 +6,5 @@ pub mod Faults
 pub mod Turns
 pub mod Passing
 pub mod States
+pub mod Does
 pub mod Drafts

@@ -2,16 +2,13 @@
 --   under      what is answered of a rule fed under a status, where the place is then p
 --   skipping   a skip
 --   turn_at    what becomes of the open conditionals where a skip ends
---   is_first   whether a conditional is open in its first part
-use Rattle.std.specs.Prelude.{Bool, true, false, Some, None, Ok, Err, Option, Result}
+use Rattle.std.specs.Prelude.{Ok, Err, Result}
 use Rattle.matching.specs.Matching.{on}
 use Rattle.sources.specs.declared.fault.Place.{Place}
 use Rattle.sources.specs.declared.fault.PileRefusal.TheVariants.{Ended}
 use Rattle.sources.specs.declared.fault.PileFault.TheVariants as piles
 use Rattle.driving.specs.declared.status.Status.{Status}
 use Rattle.driving.specs.Drives.{Driven, came, ended, failed, drive}
-use Rattle.pending.specs.declared.conditional.Part.{Part}
-use Rattle.pending.specs.declared.conditional.Part.TheVariants.{First, Second}
 use Rattle.rules.specs.declared.phases.Until.{Until}
 use Rattle.rules.specs.declared.phases.Found.{Found}
 use Rattle.rules.specs.declared.phases.Found.TheVariants as found
@@ -34,8 +31,3 @@ skipping s r u = drive (skip_feed (meanings_of s.book) u) (on 0) r (ahead s r)
 abbrev pub turn_at : Found → Turn
 turn_at found.Else = BeginSecond
 turn_at found.Fi = Keep
-
-abbrev pub is_first : Option Part → Bool
-is_first None = false
-is_first (Some First) = true
-is_first (Some Second) = false

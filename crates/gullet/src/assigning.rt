@@ -1,26 +1,19 @@
-ghost use Rattle.std.specs.Prelude.{◌≡◌, List};
-ghost use Rattle.tokens.specs.declared.token.Token.{Token};
+ghost use Rattle.std.specs.Prelude.{◌≡◌};
 ghost use Rattle.book.specs.Books.{name_answer, after_name};
 ghost use Rattle.book.specs.Said.{book_of};
-ghost use Rattle.driving.specs.declared.status.Status.TheVariants.{Normal};
-ghost use Rattle.driving.specs.Drives.{stands_at};
 ghost use Rattle.rules.specs.Assigning.{let_as, letting};
-ghost use Rattle.rules.specs.Readers.{reader};
-ghost use Rattle.rules.specs.Refusals.{gullet};
-ghost use Rattle.rules.specs.States.{at, categories_of, meanings_of};
+ghost use Rattle.rules.specs.States.{meanings_of};
 ghost use Rattle.rules.specs.Tokens.{meaning};
-ghost use Rattle.gullet.specs.Faults.{fault_at, placed};
-ghost use Rattle.gullet.specs.Fed.{Onward};
-ghost use Rattle.gullet.specs.States.{state_of, place_of, cleared};
+ghost use Rattle.gullet.specs.Does.{Does, Finds, ReadsOn};
+ghost use Rattle.gullet.specs.Faults.{placed};
 ghost use Rattle.gullet.specs.Targets.{named_ahead, target_of, let_named};
 
-use crate::fault::{Cause, GulletFault};
+use crate::fault::GulletFault;
 use crate::feeding::fed;
 use crate::letting::Lets;
 use crate::naming::Named;
 use crate::parts::Gullet;
 use book::{Book, BookFault, Plain};
-use driving::Status;
 use rules::{GulletRefusal, Letting};
 use sources::Source;
 use tokens::{Answer, Entry, Scope, Token as Read};
@@ -39,49 +32,30 @@ fn copy_meaning(book: &mut Book, name: u16, scope: Scope, token: Read) -> Result
 }
 
 impl<S: Source> Gullet<S> {
-    // A refusal of the gullet's own, at the present place.
-    pub(crate) fn refused(&self, refusal: GulletRefusal) -> GulletFault
-        ensures { result ≡ fault_at (place_of S.Source.place self.now) (record { cause = gullet refusal; status = Normal }) }
-    {
-        GulletFault {
-            cause: Cause::Gullet(refusal, self.source.place()),
-            status: Status::Normal,
-        }
-    }
-
     // The name behind \def, \gdef or \let.
     pub(crate) fn named_target(&mut self) -> Result<u16, GulletFault>
-        ensures answer { (read : List Token) → result ≡ placed (place_of S.Source.place self.new) (target_of (named_ahead (state_of S.Source.ahead self.old) (reader (state_of S.Source.ahead self.old).stands read))) }
-        ensures state { (read : List Token) → state_of S.Source.ahead self.new ≡ at (state_of S.Source.ahead self.old) (stands_at (named_ahead (state_of S.Source.ahead self.old) (reader (state_of S.Source.ahead self.old).stands read))) }
-        ensures onward { Onward (S.Source.reads (categories_of (state_of S.Source.ahead self.old).book)) self.old.source.below self.new.source.below }
+        ensures finds { Finds S.Source.ahead S.Source.place self.old self.new result (λ p d. placed p (target_of d)) named_ahead }
+        ensures onward { ReadsOn S.Source.reads self.old self.new }
     {
         let name = fed(&mut self.source, &self.book, &mut self.names, &Named, ())?;
-        match name {
-            Some(number) => Ok(number),
-            None => Err(self.refused(GulletRefusal::BadDefinition)),
-        }
+        name.ok_or_else(|| self.refusal(GulletRefusal::BadDefinition))
     }
 
     // A name means what a token means now, and no task is under way any more.
     fn give_alike(&mut self, name: u16, scope: Scope, token: Read) -> Result<Answer, GulletFault>
-        ensures answer { (read : List Token) → result ≡ placed (place_of S.Source.place self.new) (let_as (state_of S.Source.ahead self.old) name scope token (reader (state_of S.Source.ahead self.old).stands read)).answer }
-        ensures state { (read : List Token) → cleared result (state_of S.Source.ahead self.new) ≡ (let_as (state_of S.Source.ahead self.old) name scope token (reader (state_of S.Source.ahead self.old).stands read)).state }
+        ensures does { Does S.Source.ahead S.Source.place self.old self.new result (λ s r. let_as s name scope token r) }
         ensures below { self.new.source.below ≡ self.old.source.below }
     {
-        match copy_meaning(&mut self.book, name, scope, token) {
-            Ok(()) => {
-                self.tasks.clear();
-                Ok(Answer::Assigned(scope, Entry::Name(name)))
-            }
-            Err(fault) => Err(self.refused_by_book(fault)),
-        }
+        let outcome = copy_meaning(&mut self.book, name, scope, token);
+        outcome.map_err(|fault| self.refused_by_book(fault))?;
+        self.tasks.clear();
+        Ok(Answer::Assigned(scope, Entry::Name(name)))
     }
 
     // \let behind its name.
     fn let_token(&mut self, name: u16, scope: Scope) -> Result<Answer, GulletFault>
-        ensures answer { (read : List Token) → result ≡ placed (place_of S.Source.place self.new) (let_named (state_of S.Source.ahead self.old) (reader (state_of S.Source.ahead self.old).stands read) name scope).answer }
-        ensures state { (read : List Token) → cleared result (state_of S.Source.ahead self.new) ≡ (let_named (state_of S.Source.ahead self.old) (reader (state_of S.Source.ahead self.old).stands read) name scope).state }
-        ensures onward { Onward (S.Source.reads (categories_of (state_of S.Source.ahead self.old).book)) self.old.source.below self.new.source.below }
+        ensures does { Does S.Source.ahead S.Source.place self.old self.new result (λ s r. let_named s r name scope) }
+        ensures onward { ReadsOn S.Source.reads self.old self.new }
     {
         let token = fed(
             &mut self.source,
@@ -95,9 +69,8 @@ impl<S: Source> Gullet<S> {
 
     // \let.
     pub(crate) fn let_alike(&mut self, scope: Scope) -> Result<Answer, GulletFault>
-        ensures answer { (read : List Token) → result ≡ placed (place_of S.Source.place self.new) (letting (state_of S.Source.ahead self.old) (reader (state_of S.Source.ahead self.old).stands read) scope).answer }
-        ensures state { (read : List Token) → cleared result (state_of S.Source.ahead self.new) ≡ (letting (state_of S.Source.ahead self.old) (reader (state_of S.Source.ahead self.old).stands read) scope).state }
-        ensures onward { Onward (S.Source.reads (categories_of (state_of S.Source.ahead self.old).book)) self.old.source.below self.new.source.below }
+        ensures does { Does S.Source.ahead S.Source.place self.old self.new result (λ s r. letting s r scope) }
+        ensures onward { ReadsOn S.Source.reads self.old self.new }
     {
         let name = self.named_target()?;
         self.let_token(name, scope)

@@ -1,20 +1,14 @@
-ghost use Rattle.std.specs.Prelude.{◌≡◌, List, Some};
-ghost use Rattle.tokens.specs.declared.token.Token.{Token};
+ghost use Rattle.std.specs.Prelude.{◌≡◌, Some};
 ghost use Rattle.tokens.specs.Categories.{category_of};
 ghost use Rattle.rules.specs.Assigning.{recoded_as, recoded_by, recoding_of, recoding_by, recoding};
-ghost use Rattle.rules.specs.Readers.{reader};
-ghost use Rattle.rules.specs.States.{categories_of};
-ghost use Rattle.gullet.specs.Faults.{placed};
-ghost use Rattle.gullet.specs.Fed.{Onward};
-ghost use Rattle.gullet.specs.States.{state_of, place_of, cleared};
+ghost use Rattle.gullet.specs.Does.{Does, ReadsOn};
 
-use crate::fault::{Cause, GulletFault};
+use crate::fault::GulletFault;
 use crate::feeding::fed;
 use crate::parts::Gullet;
 use crate::putting::PUT_BACK_LIMIT;
 use crate::recoding::{Numbers, Subjects, byte_of};
 use crate::telling::is_space;
-use driving::Status;
 use rules::{GulletRefusal, Number, Subject};
 use sources::{PileFault, PileRefusal, Source};
 use tokens::{Answer, Category, Entry, Scope, Token as Read};
@@ -27,20 +21,17 @@ impl<S: Source> Gullet<S> {
         number: u8,
         scope: Scope,
     ) -> Result<Answer, GulletFault>
-        ensures answer { (read : List Token) → result ≡ placed (place_of S.Source.place self.new) (recoded_as (state_of S.Source.ahead self.old) code scope (reader (state_of S.Source.ahead self.old).stands read) (state_of S.Source.ahead self.old).stands (category_of number)).answer }
-        ensures state { (read : List Token) → cleared result (state_of S.Source.ahead self.new) ≡ (recoded_as (state_of S.Source.ahead self.old) code scope (reader (state_of S.Source.ahead self.old).stands read) (state_of S.Source.ahead self.old).stands (category_of number)).state }
+        ensures does { Does S.Source.ahead S.Source.place self.old self.new result (λ s r. recoded_as s code scope r s.stands (category_of number)) }
         ensures below { self.new.source.below ≡ self.old.source.below }
     {
-        match Category::from_number(number) {
-            None => Err(self.refused(GulletRefusal::BadCatcode)),
-            Some(category) => match self.book.assign_category(code, category, scope) {
-                Ok(()) => {
-                    self.tasks.clear();
-                    Ok(Answer::Assigned(scope, Entry::Code(code, category)))
-                }
-                Err(fault) => Err(self.refused_by_book(fault)),
-            },
-        }
+        let Ok(category) = Category::try_from(number) else {
+            return Err(self.refusal(GulletRefusal::BadCatcode));
+        };
+        self.book
+            .assign_category(code, category, scope)
+            .map_err(|fault| self.refused_by_book(fault))?;
+        self.tasks.clear();
+        Ok(Answer::Assigned(scope, Entry::Code(code, category)))
     }
 
     // The same, with the token behind the digits: a space is lost, and another is put back.
@@ -51,20 +42,14 @@ impl<S: Source> Gullet<S> {
         token: Read,
         scope: Scope,
     ) -> Result<Answer, GulletFault>
-        ensures answer { (read : List Token) → result ≡ placed (place_of S.Source.place self.new) (recoded_by (state_of S.Source.ahead self.old) code scope (Some (number, token)) (reader (state_of S.Source.ahead self.old).stands read)).answer }
-        ensures state { (read : List Token) → cleared result (state_of S.Source.ahead self.new) ≡ (recoded_by (state_of S.Source.ahead self.old) code scope (Some (number, token)) (reader (state_of S.Source.ahead self.old).stands read)).state }
+        ensures does { Does S.Source.ahead S.Source.place self.old self.new result (λ s r. recoded_by s code scope (Some (number, token)) r) }
         ensures below { self.new.source.below ≡ self.old.source.below }
     {
-        let space = is_space(&self.book, token);
-        if space {
+        if is_space(&self.book, token) {
             return self.give_category(code, number, scope);
         }
-        let held = self.source.held();
-        if held >= PUT_BACK_LIMIT {
-            return Err(GulletFault {
-                cause: Cause::Pile(PileFault::Pile(PileRefusal::NoRoom, self.source.place())),
-                status: Status::Normal,
-            });
+        if self.source.held() >= PUT_BACK_LIMIT {
+            return Err(PileFault::Pile(PileRefusal::NoRoom, self.source.place()).into());
         }
         let answer = self.give_category(code, number, scope)?;
         let _ = self.source.put_back(&[token]);
@@ -73,9 +58,8 @@ impl<S: Source> Gullet<S> {
 
     // \catcode behind its character: a number follows.
     pub(crate) fn recode_byte(&mut self, code: u8, scope: Scope) -> Result<Answer, GulletFault>
-        ensures answer { (read : List Token) → result ≡ placed (place_of S.Source.place self.new) (recoding_of (state_of S.Source.ahead self.old) scope (reader (state_of S.Source.ahead self.old).stands read) (Some code)).answer }
-        ensures state { (read : List Token) → cleared result (state_of S.Source.ahead self.new) ≡ (recoding_of (state_of S.Source.ahead self.old) scope (reader (state_of S.Source.ahead self.old).stands read) (Some code)).state }
-        ensures onward { Onward (S.Source.reads (categories_of (state_of S.Source.ahead self.old).book)) self.old.source.below self.new.source.below }
+        ensures does { Does S.Source.ahead S.Source.place self.old self.new result (λ s r. recoding_of s scope r (Some code)) }
+        ensures onward { ReadsOn S.Source.reads self.old self.new }
     {
         let found = fed(
             &mut self.source,
@@ -84,29 +68,24 @@ impl<S: Source> Gullet<S> {
             &Numbers,
             Number::BeforeNumber,
         )?;
-        match found {
-            Some((number, token)) => self.give_category_before(code, number, token, scope),
-            None => Err(self.refused(GulletRefusal::BadCatcode)),
-        }
+        let (number, token) = found.ok_or_else(|| self.refusal(GulletRefusal::BadCatcode))?;
+        self.give_category_before(code, number, token, scope)
     }
 
     // \catcode behind the token that its quote is for.
     fn recode_token(&mut self, token: Read, scope: Scope) -> Result<Answer, GulletFault>
-        ensures answer { (read : List Token) → result ≡ placed (place_of S.Source.place self.new) (recoding_by (state_of S.Source.ahead self.old) scope (Some token) (reader (state_of S.Source.ahead self.old).stands read)).answer }
-        ensures state { (read : List Token) → cleared result (state_of S.Source.ahead self.new) ≡ (recoding_by (state_of S.Source.ahead self.old) scope (Some token) (reader (state_of S.Source.ahead self.old).stands read)).state }
-        ensures onward { Onward (S.Source.reads (categories_of (state_of S.Source.ahead self.old).book)) self.old.source.below self.new.source.below }
+        ensures does { Does S.Source.ahead S.Source.place self.old self.new result (λ s r. recoding_by s scope (Some token) r) }
+        ensures onward { ReadsOn S.Source.reads self.old self.new }
     {
-        match byte_of(&self.names, token) {
-            Some(code) => self.recode_byte(code, scope),
-            None => Err(self.refused(GulletRefusal::BadCatcode)),
-        }
+        let found = byte_of(&self.names, token);
+        let code = found.ok_or_else(|| self.refusal(GulletRefusal::BadCatcode))?;
+        self.recode_byte(code, scope)
     }
 
     // \catcode.
     pub(crate) fn recode(&mut self, scope: Scope) -> Result<Answer, GulletFault>
-        ensures answer { (read : List Token) → result ≡ placed (place_of S.Source.place self.new) (recoding (state_of S.Source.ahead self.old) (reader (state_of S.Source.ahead self.old).stands read) scope).answer }
-        ensures state { (read : List Token) → cleared result (state_of S.Source.ahead self.new) ≡ (recoding (state_of S.Source.ahead self.old) (reader (state_of S.Source.ahead self.old).stands read) scope).state }
-        ensures onward { Onward (S.Source.reads (categories_of (state_of S.Source.ahead self.old).book)) self.old.source.below self.new.source.below }
+        ensures does { Does S.Source.ahead S.Source.place self.old self.new result (λ s r. recoding s r scope) }
+        ensures onward { ReadsOn S.Source.reads self.old self.new }
     {
         let found = fed(
             &mut self.source,
@@ -115,9 +94,7 @@ impl<S: Source> Gullet<S> {
             &Subjects,
             Subject::BeforeQuote,
         )?;
-        match found {
-            Some(token) => self.recode_token(token, scope),
-            None => Err(self.refused(GulletRefusal::BadCatcode)),
-        }
+        let token = found.ok_or_else(|| self.refusal(GulletRefusal::BadCatcode))?;
+        self.recode_token(token, scope)
     }
 }

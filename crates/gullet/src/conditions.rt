@@ -1,13 +1,11 @@
-ghost use Rattle.std.specs.Prelude.{◌≡◌, List, []};
-ghost use Rattle.tokens.specs.declared.token.Token.{Token};
+ghost use Rattle.std.specs.Prelude.{◌≡◌, []};
 ghost use Rattle.driving.specs.declared.status.Status.TheVariants.{Normal};
 ghost use Rattle.rules.specs.Expanding.{at_fi_of};
-ghost use Rattle.rules.specs.Readers.{reader};
 ghost use Rattle.rules.specs.Refusals.{gullet};
-ghost use Rattle.rules.specs.States.{completed, categories_of};
-ghost use Rattle.gullet.specs.Faults.{fault_at, placed};
-ghost use Rattle.gullet.specs.Fed.{Onward};
-ghost use Rattle.gullet.specs.States.{state_of, place_of, cleared};
+ghost use Rattle.rules.specs.States.{completed};
+ghost use Rattle.gullet.specs.Does.{Does, ReadsOn};
+ghost use Rattle.gullet.specs.Faults.{fault_at};
+ghost use Rattle.gullet.specs.States.{place_of};
 ghost use Rattle.gullet.specs.Turns.{turned};
 
 use crate::fault::{Cause, GulletFault};
@@ -31,24 +29,18 @@ impl<S: Source> Gullet<S> {
 
     // An expansion is complete with nothing for its result: then the open conditionals change.
     pub(crate) fn conclude(&mut self, turn: Turn) -> Result<Answer, GulletFault>
-        ensures answer { (read : List Token) → result ≡ placed (place_of S.Source.place self.new) (completed (state_of S.Source.ahead self.old) (reader (state_of S.Source.ahead self.old).stands read) (turned turn (state_of S.Source.ahead self.old).conditionals) []).answer }
-        ensures state { (read : List Token) → cleared result (state_of S.Source.ahead self.new) ≡ (completed (state_of S.Source.ahead self.old) (reader (state_of S.Source.ahead self.old).stands read) (turned turn (state_of S.Source.ahead self.old).conditionals) []).state }
+        ensures does { Does S.Source.ahead S.Source.place self.old self.new result (λ s r. completed s r (turned turn s.conditionals) []) }
         ensures below { self.new.source.below ≡ self.old.source.below }
     {
-        match self.complete(&[]) {
-            Ok(answer) => {
-                turn_to(&mut self.conditionals, turn);
-                Ok(answer)
-            }
-            Err(fault) => Err(fault),
-        }
+        let answer = self.complete(&[])?;
+        turn_to(&mut self.conditionals, turn);
+        Ok(answer)
     }
 
     // A \fi closes the innermost conditional, if one is open.
     pub(crate) fn end_conditional(&mut self) -> Result<Answer, GulletFault>
-        ensures answer { (read : List Token) → result ≡ placed (place_of S.Source.place self.new) (at_fi_of (state_of S.Source.ahead self.old) (reader (state_of S.Source.ahead self.old).stands read) (state_of S.Source.ahead self.old).conditionals).answer }
-        ensures state { (read : List Token) → cleared result (state_of S.Source.ahead self.new) ≡ (at_fi_of (state_of S.Source.ahead self.old) (reader (state_of S.Source.ahead self.old).stands read) (state_of S.Source.ahead self.old).conditionals).state }
-        ensures onward { Onward (S.Source.reads (categories_of (state_of S.Source.ahead self.old).book)) self.old.source.below self.new.source.below }
+        ensures does { Does S.Source.ahead S.Source.place self.old self.new result (λ s r. at_fi_of s r s.conditionals) }
+        ensures onward { ReadsOn S.Source.reads self.old self.new }
     {
         if self.conditionals.is_empty() {
             return Err(self.refusal(GulletRefusal::Misplaced));

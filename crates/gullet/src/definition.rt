@@ -11,14 +11,15 @@ ghost use Rattle.rules.specs.States.{categories_of, meanings_of};
 ghost use Rattle.gullet.specs.Drafts.{defined_of};
 ghost use Rattle.gullet.specs.Fed.{position_of};
 
-use crate::draft::{DefinitionEnd, Draft, Spot, Stage};
+use crate::draft::{DefinitionEnd, Draft, Stage};
 use crate::feeding::categories;
 use book::Book;
 use driving::needed;
 use names::Names;
 use piles::PutBack;
 use sources::{PileFault, Source};
-use tokens::{Category, Move};
+use std::ops::ControlFlow;
+use tokens::Category;
 
 // Reads a definition behind its name from any source, and keeps its words in the draft.
 fn drafted<S: Source>(
@@ -34,16 +35,12 @@ fn drafted<S: Source>(
     ensures reached { Reached (S.Source.reads categories.now) (definition_feed (meanings_of (book_of book.now))) (on (in_text [] 0)) (listed names.old) (stream categories.now (listed names.old) (S.Source.ahead source.old)) source.old source.new }
 {
     draft.parameters.clear();
-    let mut spot = Spot {
-        stage: Stage::InText,
-        count: 0,
-        depth: 0,
-    };
+    let mut stage = Stage::InText { count: 0 };
     'tokens: loop {
         let token = needed(source, categories, names)?;
-        match draft.feed(book, spot, token) {
-            Move::On(next) => spot = next,
-            Move::Out(end) => return Ok(end),
+        match draft.feed(book, stage, token) {
+            ControlFlow::Continue(next) => stage = next,
+            ControlFlow::Break(end) => return Ok(end),
         }
     }
 }

@@ -16,25 +16,18 @@ pub(crate) struct Draft {
     ghost few: { vec_len body ≤ 2048 },
 }
 
-// In the parameter text or the body, or behind a character of category 6 there.
-#[derive(Clone, Copy)]
+// Where the reading of a definition is: in the parameter text or the body, or behind a character of category 6 there,
+// with how many parameters there are, and in the body how deep braces are.
+#[derive(Clone, Copy, Debug, PartialEq, Eq)]
 pub(crate) enum Stage {
-    InText,
-    HashInText,
-    InBody,
-    HashInBody,
-}
-
-// Where the reading of a definition is: its stage, how many parameters it has, and how deep braces are.
-#[derive(Clone, Copy)]
-pub(crate) struct Spot {
-    pub(crate) stage: Stage,
-    pub(crate) count: u8,
-    pub(crate) depth: u64,
+    InText { count: u8 },
+    HashInText { count: u8 },
+    InBody { count: u8, depth: u64 },
+    HashInBody { count: u8, depth: u64 },
 }
 
 // What comes of reading a definition; once it is defined its words are in the draft.
-#[derive(Clone, Copy)]
+#[derive(Clone, Copy, Debug, PartialEq, Eq)]
 pub(crate) enum DefinitionEnd {
     Defined,
     Broken,

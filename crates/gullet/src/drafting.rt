@@ -4,80 +4,71 @@ ghost use Rattle.gullet.specs.Automata.{meant, Within};
 ghost use Rattle.rules.specs.Defining.{in_text, hash_in_text, in_body, hash_in_body, room, one_more, definition_feed};
 ghost use Rattle.rules.specs.States.{meanings_of};
 ghost use Rattle.rules.specs.Tokens.{Meanings};
-ghost use Rattle.gullet.specs.Drafts.{view, moved};
+ghost use Rattle.gullet.specs.Drafts.{view, moved, depth_of};
 
-use crate::draft::{DefinitionEnd, Draft, Spot, Stage, WORDS_LIMIT};
-use crate::telling::{digit_of, is_close, is_digit, is_hash, is_open};
+use crate::draft::{DefinitionEnd, Draft, Stage, WORDS_LIMIT};
+use crate::telling::{digit_of, is_digit, is_hash};
 use book::Book;
-use tokens::{BodyWord, Move, ParameterWord, Token};
+use driving::{is_close, is_open};
+use std::ops::ControlFlow;
+use tokens::{BodyWord, ParameterWord, Token};
 
 impl Draft {
     // One word more in the parameter text, which then has so many parameters.
-    fn more_text(&mut self, word: ParameterWord, count: u8) -> Move<Spot, DefinitionEnd>
+    fn more_text(&mut self, word: ParameterWord, count: u8) -> ControlFlow<DefinitionEnd, Stage>
         ensures moves { moved result self.new ≡ room (length self.old.parameters.items) (in_text (self.old.parameters.items ++ word ∷ []) count) }
-        ensures within { Within (λ s. s.depth) (vec_len self.new.body) (meant result) }
+        ensures within { Within depth_of (vec_len self.new.body) (meant result) }
     {
         if self.parameters.len() >= WORDS_LIMIT {
-            return Move::Out(DefinitionEnd::TooLong);
+            return ControlFlow::Break(DefinitionEnd::TooLong);
         }
         self.parameters.push_reserved(word);
-        Move::On(Spot {
-            stage: Stage::InText,
-            count,
-            depth: 0,
-        })
+        ControlFlow::Continue(Stage::InText { count })
     }
 
     // One word more in the body, behind which braces are so deep.
-    fn more_body(&mut self, word: BodyWord, count: u8, depth: u64) -> Move<Spot, DefinitionEnd>
+    fn more_body(
+        &mut self,
+        word: BodyWord,
+        count: u8,
+        depth: u64,
+    ) -> ControlFlow<DefinitionEnd, Stage>
         requires { depth ≤ vec_len self.old.body + 1 }
         ensures moves { moved result self.new ≡ one_more self.old.parameters.items count self.old.body.items word depth }
-        ensures within { Within (λ s. s.depth) (vec_len self.new.body) (meant result) }
+        ensures within { Within depth_of (vec_len self.new.body) (meant result) }
     {
         if self.parameters.len() >= WORDS_LIMIT - self.body.len() {
-            return Move::Out(DefinitionEnd::TooLong);
+            return ControlFlow::Break(DefinitionEnd::TooLong);
         }
         self.body.push_reserved(word);
-        Move::On(Spot {
-            stage: Stage::InBody,
-            count,
-            depth,
-        })
+        ControlFlow::Continue(Stage::InBody { count, depth })
     }
 
-    fn in_text(&mut self, book: &Book, count: u8, token: Token) -> Move<Spot, DefinitionEnd>
+    fn in_text(&mut self, book: &Book, count: u8, token: Token) -> ControlFlow<DefinitionEnd, Stage>
         ensures moves { moved result self.new ≡ definition_feed (meanings_of (book_of book.now)) (in_text self.old.parameters.items count) token }
-        ensures within { Within (λ s. s.depth) (vec_len self.new.body) (meant result) }
+        ensures within { Within depth_of (vec_len self.new.body) (meant result) }
     {
         if is_open(token) {
             self.body.clear();
-            return Move::On(Spot {
-                stage: Stage::InBody,
-                count,
-                depth: 0,
-            });
+            return ControlFlow::Continue(Stage::InBody { count, depth: 0 });
         }
         if is_close(token) {
-            return Move::Out(DefinitionEnd::Broken);
+            return ControlFlow::Break(DefinitionEnd::Broken);
         }
         if is_hash(book, token) {
-            return Move::On(Spot {
-                stage: Stage::HashInText,
-                count,
-                depth: 0,
-            });
+            return ControlFlow::Continue(Stage::HashInText { count });
         }
         self.more_text(ParameterWord::Token(token), count)
     }
 
-    fn hash_in_text(&mut self, count: u8, token: Token) -> Move<Spot, DefinitionEnd>
+    fn hash_in_text(&mut self, count: u8, token: Token) -> ControlFlow<DefinitionEnd, Stage>
         ensures moves { (f : Meanings) → moved result self.new ≡ definition_feed f (hash_in_text self.old.parameters.items count) token }
-        ensures within { Within (λ s. s.depth) (vec_len self.new.body) (meant result) }
+        ensures within { Within depth_of (vec_len self.new.body) (meant result) }
     {
         if count < 9 && is_digit(count + 1, token) {
             self.more_text(ParameterWord::Parameter, count + 1)
         } else {
-            Move::Out(DefinitionEnd::Broken)
+            ControlFlow::Break(DefinitionEnd::Broken)
         }
     }
 
@@ -87,10 +78,10 @@ impl Draft {
         count: u8,
         depth: u64,
         token: Token,
-    ) -> Move<Spot, DefinitionEnd>
+    ) -> ControlFlow<DefinitionEnd, Stage>
         requires { depth ≤ vec_len self.old.body }
         ensures moves { moved result self.new ≡ definition_feed (meanings_of (book_of book.now)) (in_body self.old.parameters.items count self.old.body.items depth) token }
-        ensures within { Within (λ s. s.depth) (vec_len self.new.body) (meant result) }
+        ensures within { Within depth_of (vec_len self.new.body) (meant result) }
     {
         let word = BodyWord::Token(token);
         if is_open(token) {
@@ -98,16 +89,12 @@ impl Draft {
         }
         if is_close(token) {
             if depth == 0 {
-                return Move::Out(DefinitionEnd::Defined);
+                return ControlFlow::Break(DefinitionEnd::Defined);
             }
             return self.more_body(word, count, depth - 1);
         }
         if is_hash(book, token) {
-            return Move::On(Spot {
-                stage: Stage::HashInBody,
-                count,
-                depth,
-            });
+            return ControlFlow::Continue(Stage::HashInBody { count, depth });
         }
         self.more_body(word, count, depth)
     }
@@ -118,23 +105,19 @@ impl Draft {
         count: u8,
         depth: u64,
         token: Token,
-    ) -> Move<Spot, DefinitionEnd>
+    ) -> ControlFlow<DefinitionEnd, Stage>
         requires { depth ≤ vec_len self.old.body }
         ensures moves { moved result self.new ≡ definition_feed (meanings_of (book_of book.now)) (hash_in_body self.old.parameters.items count self.old.body.items depth) token }
-        ensures within { Within (λ s. s.depth) (vec_len self.new.body) (meant result) }
+        ensures within { Within depth_of (vec_len self.new.body) (meant result) }
     {
         if is_hash(book, token) {
             return self.more_body(BodyWord::Token(token), count, depth);
         }
         match digit_of(token) {
-            Some(digit) => {
-                if 1 <= digit && digit <= count {
-                    self.more_body(BodyWord::Reference(digit), count, depth)
-                } else {
-                    Move::Out(DefinitionEnd::Broken)
-                }
+            Some(digit) if 1 <= digit && digit <= count => {
+                self.more_body(BodyWord::Reference(digit), count, depth)
             }
-            None => Move::Out(DefinitionEnd::Broken),
+            _ => ControlFlow::Break(DefinitionEnd::Broken),
         }
     }
 
@@ -142,18 +125,18 @@ impl Draft {
     pub(crate) fn feed(
         &mut self,
         book: &Book,
-        spot: Spot,
+        stage: Stage,
         token: Token,
-    ) -> Move<Spot, DefinitionEnd>
-        requires { spot.depth ≤ vec_len self.old.body }
-        ensures moves { moved result self.new ≡ definition_feed (meanings_of (book_of book.now)) (view spot self.old) token }
-        ensures within { Within (λ s. s.depth) (vec_len self.new.body) (meant result) }
+    ) -> ControlFlow<DefinitionEnd, Stage>
+        requires { depth_of stage ≤ vec_len self.old.body }
+        ensures moves { moved result self.new ≡ definition_feed (meanings_of (book_of book.now)) (view stage self.old) token }
+        ensures within { Within depth_of (vec_len self.new.body) (meant result) }
     {
-        match spot.stage {
-            Stage::InText => self.in_text(book, spot.count, token),
-            Stage::HashInText => self.hash_in_text(spot.count, token),
-            Stage::InBody => self.in_body(book, spot.count, spot.depth, token),
-            Stage::HashInBody => self.hash_in_body(book, spot.count, spot.depth, token),
+        match stage {
+            Stage::InText { count } => self.in_text(book, count, token),
+            Stage::HashInText { count } => self.hash_in_text(count, token),
+            Stage::InBody { count, depth } => self.in_body(book, count, depth, token),
+            Stage::HashInBody { count, depth } => self.hash_in_body(book, count, depth, token),
         }
     }
 }

@@ -8,7 +8,8 @@ use crate::automaton::Automaton;
 use driving::needed;
 use names::Names;
 use sources::{PileFault, Source};
-use tokens::{Category, Move};
+use std::ops::ControlFlow;
+use tokens::Category;
 
 // Reads tokens and feeds them to a rule, from its start on, until it is out.
 pub(crate) fn driven<S: Source, A: Automaton>(
@@ -28,8 +29,8 @@ pub(crate) fn driven<S: Source, A: Automaton>(
     'tokens: loop {
         let token = needed(source, categories, names)?;
         match automaton.feed(phase, token) {
-            Move::On(more) => phase = more,
-            Move::Out(end) => return Ok(end),
+            ControlFlow::Continue(more) => phase = more,
+            ControlFlow::Break(end) => return Ok(end),
         }
     }
 }

@@ -9,7 +9,7 @@ use rules::GulletRefusal;
 use sources::{PileFault, Place};
 
 // Why a call is refused: the whole fault of the pile below, or a refusal with its place.
-#[derive(Clone, Copy)]
+#[derive(Clone, Copy, Debug, PartialEq, Eq)]
 pub enum Cause {
     Pile(PileFault),
     Matcher(MatcherRefusal, Place),
@@ -18,7 +18,7 @@ pub enum Cause {
 }
 
 // A refused call, with the scanning status in which it came.
-#[derive(Clone, Copy)]
+#[derive(Clone, Copy, Debug, PartialEq, Eq)]
 pub struct GulletFault {
     pub cause: Cause,
     pub status: Status,

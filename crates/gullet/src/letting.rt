@@ -6,7 +6,8 @@ use crate::automaton::Automaton;
 use crate::telling::{is_equals, is_space};
 use book::Book;
 use rules::Letting;
-use tokens::{Move, Token};
+use std::ops::ControlFlow;
+use tokens::Token;
 
 // Spaces, one = and one space are passed, and a token is taken.
 #[derive(Clone, Copy)]
@@ -21,29 +22,25 @@ impl Automaton for Lets<'_> {
 
     ghost feeds = { λ s. let_feed (meanings_of (book_of s.book.now)) };
 
-    ghost held = { λ _ _. 0 };
-
-    ghost bears = { λ _. Unit {0} };
-
-    fn feed(&self, phase: Letting, token: Token) -> Move<Letting, Token> {
+    fn feed(&self, phase: Letting, token: Token) -> ControlFlow<Token, Letting> {
         match phase {
             Letting::BeforeEquals => {
                 if is_space(self.book, token) {
-                    Move::On(Letting::BeforeEquals)
+                    ControlFlow::Continue(Letting::BeforeEquals)
                 } else if is_equals(token) {
-                    Move::On(Letting::BehindEquals)
+                    ControlFlow::Continue(Letting::BehindEquals)
                 } else {
-                    Move::Out(token)
+                    ControlFlow::Break(token)
                 }
             }
             Letting::BehindEquals => {
                 if is_space(self.book, token) {
-                    Move::On(Letting::BehindSpace)
+                    ControlFlow::Continue(Letting::BehindSpace)
                 } else {
-                    Move::Out(token)
+                    ControlFlow::Break(token)
                 }
             }
-            Letting::BehindSpace => Move::Out(token),
+            Letting::BehindSpace => ControlFlow::Break(token),
         }
     }
 }

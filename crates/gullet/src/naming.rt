@@ -2,19 +2,20 @@ ghost use Rattle.rules.specs.Assigning.{name_feed};
 ghost use Rattle.rules.specs.Expanding.{one_feed, two_feed};
 
 use crate::automaton::Automaton;
-use crate::telling::is_blank;
-use tokens::{Move, Token};
+use driving::is_blank;
+use std::ops::ControlFlow;
+use tokens::Token;
 
 // A token is read.
-#[derive(Clone, Copy)]
+#[derive(Clone, Copy, Debug, PartialEq, Eq)]
 pub(crate) struct One;
 
 // Two tokens are.
-#[derive(Clone, Copy)]
+#[derive(Clone, Copy, Debug, PartialEq, Eq)]
 pub(crate) struct Two;
 
 // Blanks are skipped, and a name is taken, if one is there.
-#[derive(Clone, Copy)]
+#[derive(Clone, Copy, Debug, PartialEq, Eq)]
 pub(crate) struct Named;
 
 impl Automaton for One {
@@ -24,12 +25,8 @@ impl Automaton for One {
 
     ghost feeds = { λ _. one_feed };
 
-    ghost held = { λ _ _. 0 };
-
-    ghost bears = { λ _. Unit {0} };
-
-    fn feed(&self, _phase: (), token: Token) -> Move<(), Token> {
-        Move::Out(token)
+    fn feed(&self, _phase: (), token: Token) -> ControlFlow<Token> {
+        ControlFlow::Break(token)
     }
 }
 
@@ -40,14 +37,14 @@ impl Automaton for Two {
 
     ghost feeds = { λ _. two_feed };
 
-    ghost held = { λ _ _. 0 };
-
-    ghost bears = { λ _. Unit {0} };
-
-    fn feed(&self, phase: Option<Token>, token: Token) -> Move<Option<Token>, (Token, Token)> {
+    fn feed(
+        &self,
+        phase: Option<Token>,
+        token: Token,
+    ) -> ControlFlow<(Token, Token), Option<Token>> {
         match phase {
-            None => Move::On(Some(token)),
-            Some(first) => Move::Out((first, token)),
+            None => ControlFlow::Continue(Some(token)),
+            Some(first) => ControlFlow::Break((first, token)),
         }
     }
 }
@@ -59,20 +56,11 @@ impl Automaton for Named {
 
     ghost feeds = { λ _. name_feed };
 
-    ghost held = { λ _ _. 0 };
-
-    ghost bears = { λ _. Unit {0} };
-
-    fn feed(&self, _phase: (), token: Token) -> Move<(), Option<u16>> {
+    fn feed(&self, _phase: (), token: Token) -> ControlFlow<Option<u16>> {
         match token {
-            Token::Name(number) => Move::Out(Some(number)),
-            Token::Character(_, _) => {
-                if is_blank(token) {
-                    Move::On(())
-                } else {
-                    Move::Out(None)
-                }
-            }
+            Token::Name(number) => ControlFlow::Break(Some(number)),
+            _ if is_blank(token) => ControlFlow::Continue(()),
+            _ => ControlFlow::Break(None),
         }
     }
 }

@@ -7,14 +7,15 @@ use crate::automaton::Automaton;
 use crate::telling::{digit_of, is_equals, is_quote};
 use names::Names;
 use rules::{Number, Subject};
-use tokens::{Move, Token};
+use std::ops::ControlFlow;
+use tokens::Token;
 
 // The quote of \catcode, and the token behind it.
-#[derive(Clone, Copy)]
+#[derive(Clone, Copy, Debug, PartialEq, Eq)]
 pub(crate) struct Subjects;
 
 // An optional = and digits up to 15, with the token behind them.
-#[derive(Clone, Copy)]
+#[derive(Clone, Copy, Debug, PartialEq, Eq)]
 pub(crate) struct Numbers;
 
 impl Automaton for Subjects {
@@ -24,33 +25,29 @@ impl Automaton for Subjects {
 
     ghost feeds = { λ _. subject_feed };
 
-    ghost held = { λ _ _. 0 };
-
-    ghost bears = { λ _. Unit {0} };
-
-    fn feed(&self, phase: Subject, token: Token) -> Move<Subject, Option<Token>> {
+    fn feed(&self, phase: Subject, token: Token) -> ControlFlow<Option<Token>, Subject> {
         match phase {
             Subject::BeforeQuote => {
                 if is_quote(token) {
-                    Move::On(Subject::BehindQuote)
+                    ControlFlow::Continue(Subject::BehindQuote)
                 } else {
-                    Move::Out(None)
+                    ControlFlow::Break(None)
                 }
             }
-            Subject::BehindQuote => Move::Out(Some(token)),
+            Subject::BehindQuote => ControlFlow::Break(Some(token)),
         }
     }
 }
 
 // One digit more, if the number stays within 15.
-fn one_digit(value: u8, digit: u8) -> Move<Number, Option<(u8, Token)>>
+fn one_digit(value: u8, digit: u8) -> ControlFlow<Option<(u8, Token)>, Number>
     ensures { meant result ≡ one_digit value digit }
 {
     let number = u16::from(value) * 10 + u16::from(digit);
     if number <= 15 {
-        Move::On(Number::InDigits(number as u8))
+        ControlFlow::Continue(Number::InDigits(number as u8))
     } else {
-        Move::Out(None)
+        ControlFlow::Break(None)
     }
 }
 
@@ -61,21 +58,17 @@ impl Automaton for Numbers {
 
     ghost feeds = { λ _. number_feed };
 
-    ghost held = { λ _ _. 0 };
-
-    ghost bears = { λ _. Unit {0} };
-
-    fn feed(&self, phase: Number, token: Token) -> Move<Number, Option<(u8, Token)>> {
+    fn feed(&self, phase: Number, token: Token) -> ControlFlow<Option<(u8, Token)>, Number> {
         if let Number::BeforeNumber = phase {
             if is_equals(token) {
-                return Move::On(Number::BeforeDigit);
+                return ControlFlow::Continue(Number::BeforeDigit);
             }
         }
         match (phase, digit_of(token)) {
             (Number::InDigits(value), Some(digit)) => one_digit(value, digit),
-            (Number::InDigits(value), None) => Move::Out(Some((value, token))),
+            (Number::InDigits(value), None) => ControlFlow::Break(Some((value, token))),
             (_, Some(digit)) => one_digit(0, digit),
-            (_, None) => Move::Out(None),
+            (_, None) => ControlFlow::Break(None),
         }
     }
 }
@@ -87,11 +80,11 @@ pub(crate) fn byte_of(names: &Names, token: Token) -> Option<u8>
     match token {
         Token::Character(_, code) => Some(code),
         Token::Name(number) => {
-            if number < 256 {
-                return Some(number as u8);
+            if let Ok(code) = u8::try_from(number) {
+                return Some(code);
             }
-            match names.spelling(number) {
-                Some([code]) => Some(*code),
+            match names.spelling(number)? {
+                [code] => Some(*code),
                 _ => None,
             }
         }

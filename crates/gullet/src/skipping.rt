@@ -7,7 +7,8 @@ use crate::automaton::Automaton;
 use crate::telling::meaning_of;
 use book::{Book, Meaning, Primitive};
 use rules::{Found, Until};
-use tokens::{Move, Token};
+use std::ops::ControlFlow;
+use tokens::Token;
 
 // A skip: how deep it stands in conditionals is its phase.
 #[derive(Clone, Copy)]
@@ -27,28 +28,20 @@ impl Automaton for Skip<'_> {
 
     ghost bears = { λ n. n + 1 < 2 ^ 64 };
 
-    fn feed(&self, depth: u64, token: Token) -> Move<u64, Found> {
+    fn feed(&self, depth: u64, token: Token) -> ControlFlow<Found, u64> {
         match meaning_of(self.book, token) {
             Meaning::Primitive(Primitive::Ifx | Primitive::IfTrue | Primitive::IfFalse) => {
-                Move::On(depth + 1)
+                ControlFlow::Continue(depth + 1)
             }
-            Meaning::Primitive(Primitive::Else) => {
-                if depth > 0 {
-                    return Move::On(depth);
-                }
-                match self.until {
-                    Until::ElseOrFi => Move::Out(Found::Else),
-                    Until::OnlyFi => Move::On(0),
-                }
-            }
-            Meaning::Primitive(Primitive::Fi) => {
-                if depth > 0 {
-                    Move::On(depth - 1)
-                } else {
-                    Move::Out(Found::Fi)
-                }
-            }
-            _ => Move::On(depth),
+            Meaning::Primitive(Primitive::Else) if depth == 0 => match self.until {
+                Until::ElseOrFi => ControlFlow::Break(Found::Else),
+                Until::OnlyFi => ControlFlow::Continue(0),
+            },
+            Meaning::Primitive(Primitive::Fi) => match depth.checked_sub(1) {
+                Some(less) => ControlFlow::Continue(less),
+                None => ControlFlow::Break(Found::Fi),
+            },
+            _ => ControlFlow::Continue(depth),
         }
     }
 }

@@ -4,8 +4,9 @@ ghost use Rattle.gullet.specs.Turns.{turned};
 
 use pending::Conditionals;
 
-// What becomes of the open conditionals when an expansion is complete.
-#[derive(Clone, Copy)]
+// What becomes of the open conditionals when an expansion is complete. It is no closure: `turned` says what each does,
+// where a closure's clause could only say that it was called.
+#[derive(Clone, Copy, Debug, PartialEq, Eq)]
 pub(crate) enum Turn {
     Keep,
     Close,

@@ -2,21 +2,21 @@ use pending::Prefix;
 use tokens::{GroupKind, Token};
 
 // What a skip looks for: the \else or the \fi of its conditional, or its \fi alone.
-#[derive(Clone, Copy)]
+#[derive(Clone, Copy, Debug, PartialEq, Eq)]
 pub enum Until {
     ElseOrFi,
     OnlyFi,
 }
 
 // Which of them it found.
-#[derive(Clone, Copy)]
+#[derive(Clone, Copy, Debug, PartialEq, Eq)]
 pub enum Found {
     Else,
     Fi,
 }
 
 // Where the reading of \let's token is, behind its name.
-#[derive(Clone, Copy)]
+#[derive(Clone, Copy, Debug, PartialEq, Eq)]
 pub enum Letting {
     BeforeEquals,
     BehindEquals,
@@ -24,14 +24,14 @@ pub enum Letting {
 }
 
 // Where the reading of \catcode's character is.
-#[derive(Clone, Copy)]
+#[derive(Clone, Copy, Debug, PartialEq, Eq)]
 pub enum Subject {
     BeforeQuote,
     BehindQuote,
 }
 
 // Where the reading of \catcode's number is.
-#[derive(Clone, Copy)]
+#[derive(Clone, Copy, Debug, PartialEq, Eq)]
 pub enum Number {
     BeforeNumber,
     BeforeDigit,
@@ -39,7 +39,7 @@ pub enum Number {
 }
 
 // An assignment.
-#[derive(Clone, Copy)]
+#[derive(Clone, Copy, Debug, PartialEq, Eq)]
 pub enum Assignment {
     // \def, or \gdef, which is global by itself.
     Define { global: bool },
@@ -48,7 +48,7 @@ pub enum Assignment {
 }
 
 // What an unexpandable token does.
-#[derive(Clone, Copy)]
+#[derive(Clone, Copy, Debug, PartialEq, Eq)]
 pub enum Act {
     Open(GroupKind),
     Close(GroupKind),

@@ -64,16 +64,16 @@ tokens-preserved g c =
     let feeds = g.A.Automaton.feeds c.args.automaton.now in
     let t = c.in_ok-token.token in
     let e = c.in_ok-token.ensures in
-    let m = on c.in-On.more in
-    let f = c.in-On.ensures in
+    let m = on c.in-Continue.more in
+    let f = c.in-Continue.ensures in
     let n : size s ≡ suc (size more) = token_size s more t b e.takes in (
       sym (drive_token reads feeds c.tokens.phase s more t b m e.takes f.answer here) ∙ c.tokens.invariant.0,
       λ y r. c.tokens.invariant.1 y (reached_token reads feeds c.tokens.phase s more t b m e.takes f.answer ns c.tokens.source c.needed.new.source y e.reads r),
       omega (arith, f.grows, c.tokens.invariant.2),
     )
 
-pub returns-in-Out : goal.returns-in-Out
-returns-in-Out g c =
+pub returns-in-Break : goal.returns-in-Break
+returns-in-Break g c =
     let cs = c.args.categories.now in
     let ns = listed c.tokens.names in
     let ms = listed c.needed.new.names in
@@ -87,8 +87,8 @@ returns-in-Out g c =
     let feeds = g.A.Automaton.feeds c.args.automaton.now in
     let t = c.in_ok-token.token in
     let e = c.in_ok-token.ensures in
-    let m = out c.in-Out.end in
-    let f = c.in-Out.ensures.answer in
+    let m = out c.in-Break.end in
+    let f = c.in-Break.ensures.answer in
     let d = sym (drive_token reads feeds c.tokens.phase s more t b m e.takes f here) ∙ c.tokens.invariant.0 in
     record {
       answer = ap (answer_of place) d;

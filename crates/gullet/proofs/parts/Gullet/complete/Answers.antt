@@ -1,34 +1,14 @@
-use Rattle.std.proofs.Common.{◌≡◌, ◌≤◌, ◌++◌, Ok, Err, is_ok, vec_items, vec_len, vec_capacity, arith}
-use Rattle.std.proofs.lemmas.Result.{err_from_is_err_and}
+use Rattle.std.proofs.Common.{◌≡◌, ◌≤◌, ◌++◌, Ok, is_ok, vec_items, vec_len, vec_capacity, arith}
 use Rattle.piles.specs.Helds.{held_tokens}
 use Rattle.piles.specs.Inserting.{put_back, put_answer}
 use Rattle.pending.specs.Underway.{tasks_of, waiting_of}
 use Rattle.rules.specs.Readers.{reader}
 use Rattle.gullet.specs.States.{state_of}
-use Rattle.gullet.proofs.Completed.{put_answer_lem, put_state, refused_answer, refused_state, in_front}
+use Rattle.gullet.proofs.Completed.{put_answer_lem, put_state, in_front}
 use Rattle.gullet.proofs.parts.Gullet.complete.Goals as goal
 
-pub returns-in_err-put_behind : goal.returns-in_err-put_behind
-returns-in_err-put_behind g c =
-    let me = c.args.self.now in
-    let s = state_of g.S.Source.ahead me in
-    let cap = c.clear.ensures.capacity in
-    let room = me.room in
-    let enough : 64 ≤ vec_capacity c.clear.new.self = omega arith in
-    let w = in_front me.tasks (vec_len c.clear.new.self) (vec_capacity c.clear.new.self) (is_ok c.copy_waiting.result) (vec_items c.clear.new.self) (vec_items c.copy_waiting.new.tokens) c.deref.result.now enough c.clear.ensures.len c.clear.ensures.items c.copy_waiting.ensures.answer c.copy_waiting.ensures.tokens c.deref.ensures.value in
-    let e = c.in_err-put_behind.ensures in
-    let f = c.in_err-put_behind.field-0.0 in
-    let x = put_back (waiting_of (tasks_of me.tasks) ++ c.args.res.now) (held_tokens me.source.held) in
-    let a : Err f ≡ put_answer (g.S.Source.place me.source.below) x = rw w at e.answer in
-    let q = err_from_is_err_and c.from_residual.result c.from_residual.ensures.1 in
-    record {
-      answer = λ read. rw (q.1, q.2, e.below) (refused_answer s (reader s.stands read) s.conditionals (g.S.Source.place me.source.below) x f a);
-      state = λ read. rw (q.1, e.held, e.below, w) (refused_state s (reader s.stands read) s.conditionals (g.S.Source.place me.source.below) x f a);
-      below = e.below;
-    }
-
-pub returns : goal.returns
-returns g c =
+pub returns-clause-does : goal.returns-clause-does
+returns-clause-does g c =
     let me = c.args.self.now in
     let s = state_of g.S.Source.ahead me in
     let cap = c.clear.ensures.capacity in
@@ -41,5 +21,4 @@ returns g c =
     record {
       answer = λ read. rw e.below (put_answer_lem s (reader s.stands read) s.conditionals (g.S.Source.place me.source.below) x a);
       state = λ read. rw (c.end_waiting.ensures, e.held, e.below, w) (put_state s (reader s.stands read) s.conditionals (g.S.Source.place me.source.below) x a);
-      below = e.below;
     }

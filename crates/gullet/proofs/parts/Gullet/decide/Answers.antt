@@ -1,71 +1,48 @@
-use Rattle.std.proofs.Common.{◌≡◌, List, [], sym, ap, ◌∙◌}
-use Rattle.tokens.specs.declared.token.Token.{Token}
+use Rattle.std.proofs.Common.{◌<◌, List, [], length, sym, ap, ◌∙◌, subst}
 use Rattle.driving.specs.declared.status.Status.TheVariants.{Skipping}
-use Rattle.driving.specs.Drives.{stands_at}
+use Rattle.pending.specs.declared.conditional.Part.{Part}
 use Rattle.rules.specs.declared.phases.Until.TheVariants.{ElseOrFi}
 use Rattle.rules.specs.Expanding.{decided, skipped_to}
-use Rattle.rules.specs.Readers.{Reader, reader}
-use Rattle.rules.specs.States.{State, Stepped, state, completed}
+use Rattle.rules.specs.Readers.{reader}
+use Rattle.rules.specs.States.{State, completed}
 use Rattle.gullet.specs.declared.turn.Turn.{Turn}
-use Rattle.gullet.specs.Faults.{placed}
+use Rattle.gullet.specs.declared.turn.Turn.TheVariants.{Begin}
 use Rattle.gullet.specs.Fed.{stays}
 use Rattle.gullet.specs.Passing.{skipping}
-use Rattle.gullet.specs.States.{state_of, cleared}
+use Rattle.gullet.specs.States.{state_of}
 use Rattle.gullet.specs.Turns.{turned}
+use Rattle.gullet.proofs.Doing.{err_is, does_as, does_then, does_short}
 use Rattle.gullet.proofs.Holding.{onward_both}
-use Rattle.gullet.proofs.Passed.{decided_true, decided_false, skipped_to_lem, went_on, broke_answer, broke_state, rests_answer, rests_state, elsewhere}
+use Rattle.gullet.proofs.Passed.{skipped_to_lem, skipped_elsewhere, decided_true, decided_false}
 use Rattle.gullet.proofs.parts.Gullet.decide.Goals as goal
 
-pub returns-then-truth : goal.returns-then-truth
-returns-then-truth g c =
+pub returns-then-truth-clause-does : goal.returns-then-truth-clause-does
+returns-then-truth-clause-does g c =
     let s = state_of g.S.Source.ahead c.args.self.now in
-    let p = g.S.Source.place c.conclude.new.self.source.below in
-    let e = c.conclude.ensures in
-    record {
-      answer = λ read. e.answer read ∙ ap (λ (y : Stepped). placed p y.answer) (sym (decided_true s c.requires.few c.args.truth (reader s.stands read) c.if-truth.true));
-      state = λ read. e.state read ∙ ap (λ (y : Stepped). y.state) (sym (decided_true s c.requires.few c.args.truth (reader s.stands read) c.if-truth.true));
-      onward = stays e.below;
-    }
+    does_as (λ z r. completed z r (turned Begin z.conditionals) []) (λ z r. decided z r c.args.truth)
+    (λ read. sym (decided_true s c.requires.few c.args.truth (reader s.stands read) c.if-truth.true)) c.conclude.ensures.does
 
-pub returns-in-Ok : goal.returns-in-Ok
-returns-in-Ok g c =
+pub returns-then-truth-clause-onward : goal.returns-then-truth-clause-onward
+returns-then-truth-clause-onward g c = stays c.conclude.ensures.below
+
+pub returns-in_err-found-clause-does : goal.returns-in_err-found-clause-does
+returns-in_err-found-clause-does g c =
+    let s = state_of g.S.Source.ahead c.args.self.now in
+    let e = c.in_err-found.ensures.finds in
+    does_as _ (λ z r. decided z r c.args.truth) (λ read. sym (decided_false s c.args.truth (reader s.stands read) c.if-truth.false))
+    (does_short Skipping (λ z r. skipping z r ElseOrFi) skipped_to c.from_residual.result c.in_err-found.field-0.0 (err_is _ _ c.from_residual.ensures.1) e.answer e.state)
+
+pub returns-clause-does : goal.returns-clause-does
+returns-clause-does g c =
     let s = state_of g.S.Source.ahead c.args.self.now in
     let mid = state_of g.S.Source.ahead c.skip.new.self in
-    let end = state_of g.S.Source.ahead c.conclude-in-Ok.new.self in
-    let l = g.S.Source.place c.skip.new.self.source.below in
-    let p = g.S.Source.place c.conclude-in-Ok.new.self.source.below in
-    let e = c.in-Ok.ensures in
-    let o = c.in-Ok.found in
-    let f = c.conclude-in-Ok.ensures in
-    let x = c.conclude-in-Ok.result in
-    let turn : Turn = c.turn_at.result in
-    let rule : State → Reader → Stepped = λ z r. completed z r (turned turn z.conditionals) [] in
-    let q : List Token → Reader = λ read. stands_at (skipping s (reader s.stands read) ElseOrFi) in
-    let total : (read : List Token) → decided s (reader s.stands read) c.args.truth ≡ rule s (q read) =
-    λ read. decided_false s c.args.truth (reader s.stands read) c.if-truth.false
-    ∙ went_on s Skipping l (skipped_to s) (skipping s (reader s.stands read) ElseOrFi) o (e.answer read)
-    ∙ skipped_to_lem s c.requires.few o (q read)
-    ∙ ap (λ (t : Turn). completed s (q read) (turned t s.conditionals) []) (sym c.turn_at.ensures) in
-    record {
-      answer = λ read. rests_answer rule s mid (q read) (elsewhere s (q read) (q read) (turned turn s.conditionals) []) (e.state read) p x f.answer
-          ∙ ap (λ (y : Stepped). placed p y.answer) (sym (total read));
-      state = λ read. rests_state rule s mid (q read) (elsewhere s (q read) (q read) (turned turn s.conditionals) []) (e.state read) (cleared x end) f.state
-          ∙ ap (λ (y : Stepped). y.state) (sym (total read));
-      onward = onward_both g.S.Source.reads _ e.onward (stays f.below);
-    }
+    let e = c.in_ok-found.ensures.finds in
+    let o = c.in_ok-found.found in
+    let few : length mid.conditionals < 100 = subst (λ (cs : List Part). length cs < 100) (sym (ap (λ (z : State). z.conditionals) (e.state []))) c.requires.few in
+    does_as _ (λ z r. decided z r c.args.truth) (λ read. sym (decided_false s c.args.truth (reader s.stands read) c.if-truth.false))
+    (does_then Skipping (λ z r. skipping z r ElseOrFi) skipped_to o e.answer e.state (λ z q. skipped_elsewhere z q q o)
+    (does_as (λ z r. completed z r (turned c.from.result z.conditionals) []) (λ z r. skipped_to z o r)
+    (λ read. ap (λ (t : Turn). completed mid (reader mid.stands read) (turned t mid.conditionals) []) c.from.ensures ∙ sym (skipped_to_lem mid few o (reader mid.stands read))) c.conclude-2.ensures.does))
 
-pub returns-in-Err : goal.returns-in-Err
-returns-in-Err g c =
-    let s = state_of g.S.Source.ahead c.args.self.now in
-    let l = g.S.Source.place c.skip.new.self.source.below in
-    let e = c.in-Err.ensures in
-    let b = c.in-Err.fault in
-    record {
-      answer = λ read.
-          broke_answer s Skipping l (skipped_to s) (skipping s (reader s.stands read) ElseOrFi) b (e.answer read)
-          ∙ ap (λ (y : Stepped). placed l y.answer) (sym (decided_false s c.args.truth (reader s.stands read) c.if-truth.false));
-      state = λ read. ap (λ (z : State). state z.stands z.book z.conditionals []) (e.state read)
-          ∙ broke_state s Skipping l (skipped_to s) (skipping s (reader s.stands read) ElseOrFi) b (e.answer read)
-          ∙ ap (λ (y : Stepped). y.state) (sym (decided_false s c.args.truth (reader s.stands read) c.if-truth.false));
-      onward = e.onward;
-    }
+pub returns-clause-onward : goal.returns-clause-onward
+returns-clause-onward g c = onward_both g.S.Source.reads _ c.in_ok-found.ensures.onward (stays c.conclude-2.ensures.below)

@@ -1,32 +1,17 @@
-use Rattle.std.proofs.Common.{List, refl}
-use Rattle.tokens.specs.declared.token.Token.{Token}
+use Rattle.std.proofs.Common.{is_ok, rules, ap, ◌∙◌}
 use Rattle.tokens.specs.declared.answer.Answer.TheVariants.{Opened}
-use Rattle.book.specs.Books.{open_answer, after_open, opening}
+use Rattle.book.specs.Books.{open_answer, opening}
+use Rattle.book.specs.Said.{book_of}
 use Rattle.rules.specs.Readers.{reader}
 use Rattle.gullet.specs.States.{state_of}
-use Rattle.gullet.proofs.Booked.{grouped_done, grouped_refused}
+use Rattle.gullet.proofs.Booked.{grouped_left}
 use Rattle.gullet.proofs.parts.Gullet.open_group.Goals as goal
 
-pub returns-in-Ok : goal.returns-in-Ok
-returns-in-Ok g c =
-    let me = c.args.self.now in
-    let s = state_of g.S.Source.ahead me in
-    let e = c.in-Ok.ensures in
-    let h = λ (read : List Token). grouped_done s (reader s.stands read) (Opened c.args.kind) (g.S.Source.place me.source.below) (after_open c.args.kind s.book) (open_answer s.book) e.answer in
+pub returns-in_err-map_err-clause-does : goal.returns-in_err-map_err-clause-does
+returns-in_err-map_err-clause-does g c =
+    let s = state_of g.S.Source.ahead c.args.self.now in
+    let e = c.open.ensures in
     record {
-      answer = λ read. (h read).0;
-      state = λ read. rw e.state (h read).1;
-      below = refl;
-    }
-
-pub returns-in-Err : goal.returns-in-Err
-returns-in-Err g c =
-    let me = c.args.self.now in
-    let s = state_of g.S.Source.ahead me in
-    let e = c.in-Err.ensures in
-    let h = λ (read : List Token). grouped_refused s (reader s.stands read) (Opened c.args.kind) (g.S.Source.place me.source.below) (opening c.args.kind s.book) (open_answer s.book) c.in-Err.fault e.answer in
-    record {
-      answer = λ read. rw c.refused_by_book.ensures (h read).0;
-      state = λ read. rw e.state (h read).1;
-      below = refl;
+      answer = search rules;
+      state = λ read. grouped_left s (reader s.stands read) (Opened c.args.kind) (opening c.args.kind s.book) (book_of c.open.new.self) (open_answer s.book) c.from_residual.result (c.in_err-map_err.ensures.variant ∙ ap is_ok e.answer) c.from_residual.ensures.0 e.state;
     }

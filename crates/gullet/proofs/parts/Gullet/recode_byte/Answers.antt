@@ -1,72 +1,39 @@
-use Rattle.std.proofs.Common.{◌≡◌, ℕ, List, [], Some, None, Option, sym, ap, ◌∙◌}
-use Rattle.std.proofs.lemmas.Result.{err_from_is_err_and}
+use Rattle.std.proofs.Common.{◌≡◌, ℕ, Some, None, Option, refl, rules}
 use Rattle.tokens.specs.declared.token.Token.{Token}
 use Rattle.matching.specs.Matching.{on}
-use Rattle.driving.specs.Drives.{drive, stands_at}
+use Rattle.driving.specs.Drives.{Driven, drive}
 use Rattle.rules.specs.declared.phases.Number.TheVariants.{BeforeNumber}
-use Rattle.rules.specs.Assigning.{number_feed, recoded_by, recoding_of}
-use Rattle.rules.specs.Readers.{Position, Reader, reader}
-use Rattle.rules.specs.States.{State, state, Stepped, ahead}
-use Rattle.gullet.specs.Faults.{placed}
-use Rattle.gullet.specs.Fed.{position_of}
-use Rattle.gullet.specs.States.{state_of}
-use Rattle.gullet.proofs.Finished.{came_ends, short_ends, onto}
+use Rattle.rules.specs.declared.refusal.GulletRefusal.TheVariants.{BadCatcode}
+use Rattle.rules.specs.Assigning.{number_feed, recoded_by}
+use Rattle.rules.specs.Readers.{Reader}
+use Rattle.rules.specs.States.{State, ahead}
+use Rattle.gullet.proofs.Doing.{missing, present, does_refuse, fed_then, fed_short}
 use Rattle.gullet.proofs.Recoded.{recoded_same}
 use Rattle.gullet.proofs.parts.Gullet.recode_byte.Goals as goal
 
-pub returns-in_err-found : goal.returns-in_err-found
-returns-in_err-found g c =
-    let me = c.args.self.now in
-    let s = state_of g.S.Source.ahead me in
-    let x = c.args.code in
-    let sc = c.args.scope in
-    let p = g.S.Source.place c.fed.new.source.below in
-    let d = λ (read : List Token). drive number_feed (on BeforeNumber) (reader s.stands read) (ahead s (reader s.stands read)) in
+abbrev number_from : State → Reader → Driven (Option (ℕ × Token)) Reader
+number_from s r = drive number_feed (on BeforeNumber) r (ahead s r)
+
+pub returns-in_err-found-clause-does : goal.returns-in_err-found-clause-does
+returns-in_err-found-clause-does g c =
     let e = c.in_err-found.ensures in
-    let f = c.in_err-found.field-0.0 in
-    let q = err_from_is_err_and c.from_residual.result c.from_residual.ensures.1 in
-    let h = λ (read : List Token). short_ends s p (recoded_by s x sc) (d read) f (e.answer read) in
-    record {
-      answer = λ read. rw (q.1, q.2) (h read).0;
-      state = λ read. rw q.1 (ap (λ (a : Position). state a s.book s.conditionals []) (e.stands read) ∙ (h read).1);
-      onward = e.onward;
-    }
+    fed_short number_from (λ z o r. recoded_by z c.args.code c.args.scope o r) c.args.self.now c.from_residual.result c.in_err-found.field-0.0 c.from_residual.ensures.1 e.answer e.stands refl
 
-pub returns-in-None : goal.returns-in-None
-returns-in-None g c =
-    let me = c.args.self.now in
-    let s = state_of g.S.Source.ahead me in
-    let x = c.args.code in
-    let sc = c.args.scope in
-    let p = g.S.Source.place c.fed.new.source.below in
-    let d = λ (read : List Token). drive number_feed (on BeforeNumber) (reader s.stands read) (ahead s (reader s.stands read)) in
+pub returns-in_err-number-clause-does : goal.returns-in_err-number-clause-does
+returns-in_err-number-clause-does g c =
     let e = c.in_ok-found.ensures in
-    let k : (read : List Token) → recoded_by s x sc None (stands_at (d read)) ≡ recoding_of s sc (reader s.stands read) (Some x) =
-    λ read. ap (λ (o : Option (ℕ × Token)). recoded_by s x sc o (stands_at (d read))) (sym c.in-None.is) ∙ came_ends s p (recoded_by s x sc) (d read) c.in_ok-found.found (e.answer read) in
-    record {
-      answer = λ read. rw c.refused.ensures (ap (λ (z : Stepped). placed p z.answer) (k read));
-      state = λ read. ap (λ (a : Position). state a s.book s.conditionals []) (e.stands read) ∙ ap (λ (z : Stepped). z.state) (k read);
-      onward = e.onward;
-    }
+    let none : c.in_ok-found.found ≡ None = missing _ _ _ c.ok_or_else.ensures.variant c.in_err-number.was in
+    fed_then number_from (λ z o r. recoded_by z c.args.code c.args.scope o r) c.args.self.now None (rw none at e.answer) e.stands refl (λ z q. refl)
+    (does_refuse c.from_residual-in_err-number.result BadCatcode (λ z r. recoded_by z c.args.code c.args.scope None r) (search rules) (λ read. refl))
 
-pub returns-in-Some : goal.returns-in-Some
-returns-in-Some g c =
-    let me = c.args.self.now in
-    let s = state_of g.S.Source.ahead me in
-    let x = c.args.code in
-    let sc = c.args.scope in
-    let p = g.S.Source.place c.fed.new.source.below in
-    let d = λ (read : List Token). drive number_feed (on BeforeNumber) (reader s.stands read) (ahead s (reader s.stands read)) in
+pub returns-clause-does : goal.returns-clause-does
+returns-clause-does g c =
     let e = c.in_ok-found.ensures in
-    let v = c.in-Some.number in
-    let t = c.in-Some.token in
-    let m = c.give_category_before.ensures in
-    let now = state (position_of g.S.Source.ahead c.fed.new.names c.fed.new.source) s.book s.conditionals s.tasks in
-    let k : (read : List Token) → recoded_by now x sc (Some (v, t)) (reader now.stands (stands_at (d read)).read) ≡ recoding_of s sc (reader s.stands read) (Some x) =
-    λ read. onto (λ (z : State) (r : Reader). recoded_by z x sc (Some (v, t)) r) (λ z q r. recoded_same z q r sc x v t) s now (stands_at (d read)) (ap (λ (a : Position). state a s.book s.conditionals s.tasks) (e.stands read))
-    ∙ ap (λ (o : Option (ℕ × Token)). recoded_by s x sc o (stands_at (d read))) (sym c.in-Some.is) ∙ came_ends s p (recoded_by s x sc) (d read) c.in_ok-found.found (e.answer read) in
-    record {
-      answer = λ read. m.answer (stands_at (d read)).read ∙ ap (λ (z : Stepped). placed (g.S.Source.place c.give_category_before.new.self.source.below) z.answer) (k read);
-      state = λ read. m.state (stands_at (d read)).read ∙ ap (λ (z : Stepped). z.state) (k read);
-      onward = rw m.below e.onward;
-    }
+    let v = c.in_ok-number.number in
+    let t = c.in_ok-number.token in
+    let some : c.in_ok-found.found ≡ Some (v, t) = present _ _ _ _ c.ok_or_else.ensures.cases c.in_ok-number.was in
+    fed_then number_from (λ z o r. recoded_by z c.args.code c.args.scope o r) c.args.self.now (Some (v, t)) (rw some at e.answer) e.stands refl
+    (λ z q. recoded_same z q q c.args.scope c.args.code v t) c.give_category_before.ensures.does
+
+pub returns-clause-onward : goal.returns-clause-onward
+returns-clause-onward g c = rw c.give_category_before.ensures.below c.in_ok-found.ensures.onward
