@@ -2,6 +2,7 @@
 use Rattle.std.proofs.Common.{◌≡◌, ℕ, ◌+◌, ◌-◌, ◌<◌, ◌≤◌, Bool, true, false, ◌&&◌, ◌⊎◌, List, [], ◌∷◌, ◌++◌, length, get_or, take, drop, sym, refl, ap, ◌∙◌, inl, inr, arith}
 use Rattle.std.proofs.lemmas.List.{take_more, take_all, length-drop, get_or-drop, drop_more, drop-drop}
 use Rattle.std.proofs.lemmas.Bool.{cases_lt, both_ways, cond-true}
+use Rattle.std.proofs.Math.Bool.{and-false}
 use Rattle.tokens.specs.declared.token.Token.{Token}
 use Rattle.matching.specs.Braces.{is_open, is_close, is_balanced}
 use Rattle.matching.specs.Dividing.{front, ends_closed, within, is_group, stripped}
@@ -18,11 +19,7 @@ closed_push (t ∷ (u ∷ ts)) c = closed_push (u ∷ ts) c
 
 pub group_short : (ts : List Token) → length ts < 2 → is_group ts ≡ false
 group_short [] h = refl
-group_short (t ∷ []) h = and_false (is_open t)
-  where
-    and_false : (b : Bool) → (b && false) ≡ false
-    and_false true = refl
-    and_false false = refl
+group_short (t ∷ []) h = and-false (is_open t)
 group_short (t ∷ (u ∷ ts)) h = absurd (omega arith)
 
 module _ (ts : List Token) (k : Token) (h : 2 ≤ length ts) where

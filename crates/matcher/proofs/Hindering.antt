@@ -1,6 +1,7 @@
 -- What `allowed` is, by what the code tests.
 use Rattle.std.proofs.Common.{◌≡◌, ℕ, ◌+◌, ◌≤◌, Bool, true, false, cond, not, ◌&&◌, ◌||◌, leb, List, [], ◌∷◌, ◌++◌, length, Some, None, Option, sym, refl, ap, ◌∙◌, arith}
 use Rattle.std.proofs.lemmas.Bool.{leb-true, false≢true}
+use Rattle.std.proofs.Math.Bool.{or-false}
 use Rattle.tokens.specs.declared.token.Token.{Token}
 use Rattle.matching.specs.declared.refusal.MatcherRefusal.{MatcherRefusal}
 use Rattle.matching.specs.declared.refusal.MatcherRefusal.TheVariants.{Par, TooLong}
@@ -44,12 +45,8 @@ module _ (long : Bool) where
       go false true e = absurd (false≢true (sym e))
       go false false e = refl
 
-  or_none_lem : (b : Bool) → (b || false) ≡ b
-  or_none_lem true = refl
-  or_none_lem false = refl
-
   pub par_one : (t : Token) → (not long && has_par (t ∷ [])) ≡ (not long && is_par t)
-  par_one t = ap (λ (b : Bool). not long && b) (or_none_lem (is_par t))
+  par_one t = ap (λ (b : Bool). not long && b) (or-false (is_par t))
 
   -- ---- a token in a group
 

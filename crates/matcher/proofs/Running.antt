@@ -2,6 +2,7 @@
 use Rattle.std.proofs.Common.{◌≡◌, ℕ, ◌+◌, ◌≤◌, Bool, true, false, cond, not, ◌&&◌, ◌||◌, eqb, List, [], ◌∷◌, ◌++◌, length, take, drop, Some, None, sym, refl, ap, ◌∙◌, subst, inl, inr, arith}
 use Rattle.std.proofs.lemmas.List.{append_assoc, append_cancel_left, take-append-drop, take-append-le, drop-append-le, length-append, length-take-le}
 use Rattle.std.proofs.lemmas.Bool.{cond-false, cond_both, and_from, and_parts, false≢true}
+use Rattle.std.proofs.Math.Bool.{or-false}
 use Rattle.tokens.specs.declared.token.Token.{Token}
 use Rattle.matching.specs.declared.refusal.MatcherRefusal.TheVariants.{Unmatched}
 use Rattle.matching.specs.Braces.{has_par, same_token, is_front, deeper, is_balanced}
@@ -76,10 +77,6 @@ module _ (long : Bool) (p : Progress) (d u : List Token) (t : Token) where
             ∙ ap (λ (z : ℕ). cond (eqb (length (u ++ t ∷ [])) (a + z)) (ended p (stripped s) a) (on (in_run p d (u ++ t ∷ [])))) (sym dl)
 
 -- a mark in tokens is one in more tokens
-or_none_lem : (b : Bool) → b ≡ (b || false)
-or_none_lem true = refl
-or_none_lem false = refl
-
 pub mark_push : (u : List Token) (t : Token) (at depth : ℕ) → at ≤ length u → depth ≤ at → deeper 0 (take at u) ≡ Some depth → Marked (u ++ t ∷ []) at (record { at = at; depth = depth; par = false })
 mark_push u t at depth h s e =
     record {
@@ -87,7 +84,7 @@ mark_push u t at depth h s e =
       behind = omega arith;
       small = s;
       deep = ap (deeper 0) (take-append-le at u (t ∷ []) h) ∙ e;
-      told = or_none_lem (has_par (take at (u ++ t ∷ [])));
+      told = sym (or-false (has_par (take at (u ++ t ∷ []))));
     }
 
 -- what a mark tells of the name 257, where what stands before is permitted

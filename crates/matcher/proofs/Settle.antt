@@ -2,6 +2,7 @@
 use Rattle.std.proofs.Common.{◌≡◌, ℕ, zero, suc, ◌+◌, ◌<◌, ◌≤◌, Bool, true, false, ◌&&◌, ◌||◌, eqb, ◌⊎◌, List, [], ◌∷◌, ◌++◌, length, get_or, take, drop, Some, None, Option, sym, refl, ap, ◌∙◌, subst, inl, inr, arith}
 use Rattle.std.proofs.lemmas.List.{take_more, drop_all}
 use Rattle.std.proofs.lemmas.Bool.{cond-true, cond-false, cond_both, and_from, and_left, ne_eqb, cases_lt}
+use Rattle.std.proofs.Math.Bool.{or-false, or_assoc}
 use Rattle.tokens.specs.declared.token.Token.{Token}
 use Rattle.matcher.specs.declared.mark.Mark.{Mark}
 use Rattle.std.specs.Option.{option_map}
@@ -26,14 +27,6 @@ none_stays d r [] h = h
 none_stays d r (t ∷ e) h =
     cond_both (is_balanced r && is_front (t ∷ e) d) _ _ (λ (s : List Token). deeper 0 s ≡ None) (λ _. h)
     (λ _. none_stays d (r ++ t ∷ []) e (deeper_push r t ∙ ap (λ (o : Option ℕ). passed o t) h))
-
-or_assoc : (a b c : Bool) → ((a || b) || c) ≡ (a || (b || c))
-or_assoc true b c = refl
-or_assoc false b c = refl
-
-or_none_lem : (b : Bool) → (b || false) ≡ b
-or_none_lem true = refl
-or_none_lem false = refl
 
 module _ (d u : List Token) (at : ℕ) where
   pub settle_end : drop at u ≡ [] → settled_from d (take at u) (drop at u) ≡ take at u
@@ -71,7 +64,7 @@ module _ (d u : List Token) (at : ℕ) where
 
     pub next_par : (a b : Bool) → has_par (take at u) ≡ (a || b) → has_par (take (at + 1) u) ≡ (a || (b || is_par x))
     next_par a b q =
-        ap has_par take_next ∙ par_append (take at u) (x ∷ []) ∙ ap (λ (z : Bool). has_par (take at u) || z) (or_none_lem (is_par x)) ∙ ap (λ (z : Bool). z || is_par x) q ∙ or_assoc a b (is_par x)
+        ap has_par take_next ∙ par_append (take at u) (x ∷ []) ∙ ap (λ (z : Bool). has_par (take at u) || z) (or-false (is_par x)) ∙ ap (λ (z : Bool). z || is_par x) q ∙ or_assoc a b (is_par x)
 
 -- ---- marks
 

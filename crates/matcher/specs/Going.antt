@@ -5,7 +5,8 @@
 --   ReachedFrom   what the reads from a step on make of a source
 --   Leads         reading on from one step with these names and this source is reading on from another with those
 --   Fails         reading on from a step comes to a fault, with these names and this source then
-use Rattle.std.specs.Prelude.{◌≡◌, Bool, List, [], Ok, Err, Result}
+--   Goes          what reading on from a step has come to: the step behind it, by what it answered, or a fault
+use Rattle.std.specs.Prelude.{◌≡◌, Bool, List, [], Ok, Err, Result, MatchResult}
 use Rattle.tokens.specs.declared.token.Token.{Token}
 use Rattle.lines.specs.Line.{Categories, Item}
 use Rattle.names.specs.Naming.{Spellings}
@@ -45,3 +46,6 @@ module _ {S : Type 0} (reads : Categories → Spellings → S → S → Type 0) 
     pub answer : answered (place x') (driven cs long s ns (ahead x)) ≡ Err f
     pub stands : stands_at (driven cs long s ns (ahead x)) ≡ standing ns' (ahead x')
     pub reached : ReachedFrom s ns x x'
+
+  abbrev pub Goes : {T : Type 0} → Step → Spellings → S → Result T MatcherCause → (T → Step) → Spellings → S → Type 0
+  Goes s ns x r behind ns' x' = MatchResult r (λ t. Leads s ns x (behind t) ns' x') (λ f. Fails s ns x f ns' x')

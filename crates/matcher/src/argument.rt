@@ -1,9 +1,9 @@
-ghost use Rattle.std.specs.Prelude.{◌≡◌, ◌+◌, ◌<◌, ◌≤◌, List, [], ◌∷◌, ◌++◌, drop, IfOk, vec_len, MatchResult, OnOk};
+ghost use Rattle.std.specs.Prelude.{◌≡◌, ◌+◌, ◌<◌, ◌≤◌, List, [], ◌∷◌, ◌++◌, drop, IfOk, vec_len, OnOk};
 ghost use Rattle.tokens.specs.declared.token.Token.{Token as Read};
 ghost use Rattle.names.specs.Spelled.{listed};
 ghost use Rattle.matching.specs.Dividing.{stripped};
 ghost use Rattle.matching.specs.Matching.{fewest, following};
-ghost use Rattle.matcher.specs.Going.{Leads, Fails};
+ghost use Rattle.matcher.specs.Going.{Goes};
 ghost use Rattle.matcher.specs.Held.{arguments_of};
 ghost use Rattle.matcher.specs.Marks.{delimiter_in};
 
@@ -60,7 +60,7 @@ impl Arguments {
         requires held { vec_len self.old.gathered.tokens ≤ terms.counted }
         requires fits { terms.counted + terms.few ≤ 4096 }
         requires room { vec_len self.old.spans < 9 }
-        ensures goes { (ds : List (List Read)) → fewest ds ≡ terms.few → MatchResult result (λ n. Leads S.Source.reads S.Source.ahead S.Source.place categories.now terms.long (following (arguments_of self.old) terms.counted (delimiter_in delimiter.entry.words.now ∷ ds)) (listed names.old) source.old (following (arguments_of self.new) (terms.counted + n) ds) (listed names.new) source.new) (λ f. Fails S.Source.reads S.Source.ahead S.Source.place categories.now terms.long (following (arguments_of self.old) terms.counted (delimiter_in delimiter.entry.words.now ∷ ds)) (listed names.old) source.old f (listed names.new) source.new) }
+        ensures goes { (ds : List (List Read)) → fewest ds ≡ terms.few → Goes S.Source.reads S.Source.ahead S.Source.place categories.now terms.long (following (arguments_of self.old) terms.counted (delimiter_in delimiter.entry.words.now ∷ ds)) (listed names.old) source.old result (λ n. following (arguments_of self.new) (terms.counted + n) ds) (listed names.new) source.new }
         ensures fits { IfOk result (λ n. (terms.counted + n + terms.few ≤ 4096) × (vec_len self.new.gathered.tokens ≤ terms.counted + n)) }
         ensures spans { OnOk result (vec_len self.new.spans ≡ vec_len self.old.spans + 1) }
     {

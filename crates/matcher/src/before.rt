@@ -1,8 +1,8 @@
-ghost use Rattle.std.specs.Prelude.{Bool, List, [], MatchResult};
+ghost use Rattle.std.specs.Prelude.{Bool, List, []};
 ghost use Rattle.tokens.specs.declared.token.Token.{Token};
 ghost use Rattle.names.specs.Spelled.{listed};
 ghost use Rattle.matching.specs.Matching.{awaiting, following};
-ghost use Rattle.matcher.specs.Going.{Leads, Fails};
+ghost use Rattle.matcher.specs.Going.{Goes};
 ghost use Rattle.matcher.specs.Marks.{delimiter_in};
 
 use crate::delimiter::Delimiter;
@@ -20,7 +20,7 @@ pub(crate) fn text_before<S: Source>(
     names: &mut Names,
     before: Delimiter<'_>,
 ) -> Result<(), MatcherCause>
-    ensures { (long : Bool) (ds : List (List Token)) → MatchResult result (λ _. Leads S.Source.reads S.Source.ahead S.Source.place categories.now long (awaiting (delimiter_in before.entry.words.now) ds) (listed names.old) source.old (following [] 0 ds) (listed names.new) source.new) (λ f. Fails S.Source.reads S.Source.ahead S.Source.place categories.now long (awaiting (delimiter_in before.entry.words.now) ds) (listed names.old) source.old f (listed names.new) source.new) }
+    ensures { (long : Bool) (ds : List (List Token)) → Goes S.Source.reads S.Source.ahead S.Source.place categories.now long (awaiting (delimiter_in before.entry.words.now) ds) (listed names.old) source.old result (λ _. following [] 0 ds) (listed names.new) source.new }
 {
     'words: for word in before.words {
         let token = needed(source, categories, names)?;

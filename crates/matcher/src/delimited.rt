@@ -1,8 +1,8 @@
-ghost use Rattle.std.specs.Prelude.{◌≡◌, ◌+◌, ◌≤◌, [], length, drop, IfOk, vec_len, MatchResult};
+ghost use Rattle.std.specs.Prelude.{◌≡◌, ◌+◌, ◌≤◌, [], length, drop, IfOk, vec_len};
 ghost use Rattle.names.specs.Spelled.{listed};
 ghost use Rattle.matching.specs.Dividing.{stripped};
 ghost use Rattle.matching.specs.Matching.{on, Progress, in_run, ended};
-ghost use Rattle.matcher.specs.Going.{Leads, Fails};
+ghost use Rattle.matcher.specs.Going.{Goes};
 ghost use Rattle.matcher.specs.Held.{Kept};
 ghost use Rattle.matcher.specs.Hindering.{Under};
 ghost use Rattle.matcher.specs.Marks.{delimiter_in};
@@ -32,7 +32,7 @@ pub(crate) fn delimited<S: Source>(
     requires held { vec_len gathered.old.tokens ≤ terms.counted }
     requires fits { terms.counted + terms.few ≤ 4096 }
     requires some { 1 ≤ length delimiter.words.now }
-    ensures goes { (p : Progress) → Under terms p → MatchResult result (λ n. Leads S.Source.reads S.Source.ahead S.Source.place categories.now terms.long (on (in_run p (delimiter_in delimiter.entry.words.now) [])) (listed names.old) source.old (ended p (stripped (drop (vec_len gathered.old.tokens) gathered.new.tokens.items)) n) (listed names.new) source.new) (λ f. Fails S.Source.reads S.Source.ahead S.Source.place categories.now terms.long (on (in_run p (delimiter_in delimiter.entry.words.now) [])) (listed names.old) source.old f (listed names.new) source.new) }
+    ensures goes { (p : Progress) → Under terms p → Goes S.Source.reads S.Source.ahead S.Source.place categories.now terms.long (on (in_run p (delimiter_in delimiter.entry.words.now) [])) (listed names.old) source.old result (λ n. ended p (stripped (drop (vec_len gathered.old.tokens) gathered.new.tokens.items)) n) (listed names.new) source.new }
     ensures fits { IfOk result (λ n. (terms.counted + n + terms.few ≤ 4096) × (vec_len gathered.new.tokens ≡ vec_len gathered.old.tokens + n)) }
     ensures kept { Kept gathered.old.tokens gathered.new.tokens }
 {

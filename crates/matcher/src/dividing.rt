@@ -1,9 +1,9 @@
-ghost use Rattle.std.specs.Prelude.{◌≡◌, ◌≤◌, length, vec_len, MatchResult};
+ghost use Rattle.std.specs.Prelude.{◌≡◌, ◌≤◌, length, vec_len};
 ghost use Rattle.names.specs.Spelled.{listed};
 ghost use Rattle.matching.specs.Dividing.{parameters_of};
 ghost use Rattle.matching.specs.Laws.{parameters_in};
 ghost use Rattle.matching.specs.Matching.{out, begin, matched};
-ghost use Rattle.matcher.specs.Going.{Leads, Fails};
+ghost use Rattle.matcher.specs.Going.{Goes};
 ghost use Rattle.matcher.specs.Held.{arguments_of};
 
 use crate::arguments::Arguments;
@@ -27,7 +27,7 @@ pub(crate) fn divide<S: Source>(
     requires empty { (vec_len arguments.old.gathered.tokens ≡ 0) × (vec_len arguments.old.spans ≡ 0) }
     requires short { length words.now ≤ 2048 }
     requires few { parameters_in words.now ≤ 9 }
-    ensures { MatchResult result (λ _. Leads S.Source.reads S.Source.ahead S.Source.place categories.now long (begin (parameters_of words.now)) (listed names.old) source.old (out (matched (arguments_of arguments.new))) (listed names.new) source.new) (λ f. Fails S.Source.reads S.Source.ahead S.Source.place categories.now long (begin (parameters_of words.now)) (listed names.old) source.old f (listed names.new) source.new) }
+    ensures { Goes S.Source.reads S.Source.ahead S.Source.place categories.now long (begin (parameters_of words.now)) (listed names.old) source.old result (λ _. out (matched (arguments_of arguments.new))) (listed names.new) source.new }
 {
     let before = delimiter_at(words);
     text_before(source, categories, names, before)?;

@@ -1,8 +1,8 @@
-ghost use Rattle.std.specs.Prelude.{◌≡◌, ◌+◌, ◌-◌, ◌≤◌, Bool, false, [], drop, IfOk, if◌then◌else◌, vec_len, MatchResult, OnOk};
+ghost use Rattle.std.specs.Prelude.{◌≡◌, ◌+◌, ◌-◌, ◌≤◌, Bool, false, [], drop, IfOk, if◌then◌else◌, vec_len, OnOk};
 ghost use Rattle.names.specs.Spelled.{listed};
 ghost use Rattle.matching.specs.Braces.{is_open, is_blank};
 ghost use Rattle.matching.specs.Matching.{on, Progress, skipping, in_group, ended, feed};
-ghost use Rattle.matcher.specs.Going.{Leads, Fails};
+ghost use Rattle.matcher.specs.Going.{Goes};
 ghost use Rattle.matcher.specs.Held.{Kept};
 ghost use Rattle.matcher.specs.Hindering.{Under};
 
@@ -23,7 +23,7 @@ fn unblanked<S: Source>(
     categories: &[Category; 256],
     names: &mut Names,
 ) -> Result<Token, MatcherCause>
-    ensures goes { (long : Bool) (p : Progress) → MatchResult result (λ t. Leads S.Source.reads S.Source.ahead S.Source.place categories.now long (on (skipping p)) (listed names.old) source.old (feed long (skipping p) t) (listed names.new) source.new) (λ f. Fails S.Source.reads S.Source.ahead S.Source.place categories.now long (on (skipping p)) (listed names.old) source.old f (listed names.new) source.new) }
+    ensures goes { (long : Bool) (p : Progress) → Goes S.Source.reads S.Source.ahead S.Source.place categories.now long (on (skipping p)) (listed names.old) source.old result (λ t. feed long (skipping p) t) (listed names.new) source.new }
     ensures plain { IfOk result (λ t. is_blank t ≡ false) }
 {
     'blanks: loop {
@@ -44,7 +44,7 @@ fn group<S: Source>(
 ) -> Result<(), MatcherCause>
     requires held { vec_len gathered.old.tokens ≤ terms.counted }
     requires fits { terms.counted + 2 + terms.few ≤ 4096 }
-    ensures goes { (p : Progress) → Under terms p → MatchResult result (λ _. Leads S.Source.reads S.Source.ahead S.Source.place categories.now terms.long (on (in_group p [])) (listed names.old) source.old (ended p (drop (vec_len gathered.old.tokens) gathered.new.tokens.items) (vec_len gathered.new.tokens - vec_len gathered.old.tokens + 2)) (listed names.new) source.new) (λ f. Fails S.Source.reads S.Source.ahead S.Source.place categories.now terms.long (on (in_group p [])) (listed names.old) source.old f (listed names.new) source.new) }
+    ensures goes { (p : Progress) → Under terms p → Goes S.Source.reads S.Source.ahead S.Source.place categories.now terms.long (on (in_group p [])) (listed names.old) source.old result (λ _. ended p (drop (vec_len gathered.old.tokens) gathered.new.tokens.items) (vec_len gathered.new.tokens - vec_len gathered.old.tokens + 2)) (listed names.new) source.new }
     ensures fits { OnOk result (terms.counted + (vec_len gathered.new.tokens - vec_len gathered.old.tokens + 2) + terms.few ≤ 4096) }
     ensures kept { Kept gathered.old.tokens gathered.new.tokens }
 {
@@ -82,7 +82,7 @@ pub(crate) fn undelimited<S: Source>(
 ) -> Result<usize, MatcherCause>
     requires held { vec_len gathered.old.tokens ≤ terms.counted }
     requires fits { terms.counted + terms.few ≤ 8192 }
-    ensures goes { (p : Progress) → Under terms p → MatchResult result (λ n. Leads S.Source.reads S.Source.ahead S.Source.place categories.now terms.long (on (skipping p)) (listed names.old) source.old (ended p (drop (vec_len gathered.old.tokens) gathered.new.tokens.items) n) (listed names.new) source.new) (λ f. Fails S.Source.reads S.Source.ahead S.Source.place categories.now terms.long (on (skipping p)) (listed names.old) source.old f (listed names.new) source.new) }
+    ensures goes { (p : Progress) → Under terms p → Goes S.Source.reads S.Source.ahead S.Source.place categories.now terms.long (on (skipping p)) (listed names.old) source.old result (λ n. ended p (drop (vec_len gathered.old.tokens) gathered.new.tokens.items) n) (listed names.new) source.new }
     ensures fits { IfOk result (λ n. (terms.counted + n + terms.few ≤ 4096) × (vec_len gathered.new.tokens ≤ vec_len gathered.old.tokens + n)) }
     ensures kept { Kept gathered.old.tokens gathered.new.tokens }
 {
