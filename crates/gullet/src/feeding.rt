@@ -18,7 +18,7 @@ pub(crate) fn categories(book: &Book) -> &[Category; 256]
     book.categories().first_chunk::<256>().unwrap()
 }
 
-// Feeds a rule with the tokens ahead, until it is out.
+// Feeds a rule with the tokens ahead, until it is out. A gullet lends its parts one by one, since a rule may hold its book.
 pub(crate) fn fed<S: Source, A: Automaton>(
     source: &mut PutBack<S>,
     book: &Book,
