@@ -1,8 +1,6 @@
-ghost use Rattle.std.specs.Prelude.{◌≡◌, ℕ, ◌+◌, ◌<◌};
-ghost use Rattle.matching.specs.Matching.{on};
+ghost use Rattle.std.specs.Prelude.{ℕ, ◌+◌, ◌<◌};
 ghost use Rattle.names.specs.Spelled.{listed};
-ghost use Rattle.driving.specs.Streams.{stream, standing};
-ghost use Rattle.driving.specs.Drives.{drive, stands_at, answer_of, Reached};
+ghost use Rattle.gullet.specs.Fed.{Drives};
 
 use crate::automaton::Automaton;
 use driving::needed;
@@ -20,10 +18,7 @@ pub(crate) fn driven<S: Source, A: Automaton>(
     start: A::Phase,
 ) -> Result<A::Outcome, PileFault>
     requires { (n : ℕ) → n < A.Automaton.held automaton.now start + S.Source.most → A.Automaton.bears n }
-    ensures answer { result ≡ answer_of (S.Source.place source.new) (drive (A.Automaton.feeds automaton.now) (on start) (standing (listed names.old) (S.Source.ahead source.old)) (stream categories.now (listed names.old) (S.Source.ahead source.old))) }
-    ensures names { listed names.new ≡ (stands_at (drive (A.Automaton.feeds automaton.now) (on start) (standing (listed names.old) (S.Source.ahead source.old)) (stream categories.now (listed names.old) (S.Source.ahead source.old)))).names }
-    ensures items { S.Source.ahead source.new ≡ (stands_at (drive (A.Automaton.feeds automaton.now) (on start) (standing (listed names.old) (S.Source.ahead source.old)) (stream categories.now (listed names.old) (S.Source.ahead source.old)))).items }
-    ensures reached { Reached (S.Source.reads categories.now) (A.Automaton.feeds automaton.now) (on start) (listed names.old) (stream categories.now (listed names.old) (S.Source.ahead source.old)) source.old source.new }
+    ensures { Drives S.Source.ahead S.Source.place S.Source.reads categories.now (listed names.old) (listed names.new) source.old source.new result (A.Automaton.feeds automaton.now) start }
 {
     let mut phase = start;
     'tokens: loop {

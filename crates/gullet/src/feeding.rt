@@ -1,11 +1,7 @@
-ghost use Rattle.std.specs.Prelude.{◌≡◌, ℕ, ◌+◌, ◌<◌, List};
-ghost use Rattle.tokens.specs.declared.token.Token.{Token};
-ghost use Rattle.matching.specs.Matching.{on};
+ghost use Rattle.std.specs.Prelude.{◌≡◌, ℕ, ◌+◌, ◌<◌};
 ghost use Rattle.book.specs.Said.{book_of};
-ghost use Rattle.driving.specs.Drives.{drive, stands_at, answer_of};
-ghost use Rattle.rules.specs.Readers.{reader, stream_at};
 ghost use Rattle.rules.specs.States.{categories_of};
-ghost use Rattle.gullet.specs.Fed.{position_of, Onward};
+ghost use Rattle.gullet.specs.Fed.{Feeds};
 
 use crate::automaton::Automaton;
 use crate::driver::driven;
@@ -22,7 +18,7 @@ pub(crate) fn categories(book: &Book) -> &[Category; 256]
     book.categories().first_chunk::<256>().unwrap()
 }
 
-// Feeds a rule with the tokens ahead, until it is out.
+// Feeds a rule with the tokens ahead, until it is out. A gullet lends its parts one by one, since a rule may hold its book.
 pub(crate) fn fed<S: Source, A: Automaton>(
     source: &mut PutBack<S>,
     book: &Book,
@@ -31,9 +27,7 @@ pub(crate) fn fed<S: Source, A: Automaton>(
     start: A::Phase,
 ) -> Result<A::Outcome, PileFault>
     requires { (n : ℕ) → n < A.Automaton.held rule.now start + (4096 + S.Source.most) → A.Automaton.bears n }
-    ensures answer { (read : List Token) → result ≡ answer_of (S.Source.place source.new.below) (drive (A.Automaton.feeds rule.now) (on start) (reader (position_of S.Source.ahead names.old source.old) read) (stream_at (categories_of (book_of book.now)) (position_of S.Source.ahead names.old source.old) read)) }
-    ensures stands { (read : List Token) → position_of S.Source.ahead names.new source.new ≡ (stands_at (drive (A.Automaton.feeds rule.now) (on start) (reader (position_of S.Source.ahead names.old source.old) read) (stream_at (categories_of (book_of book.now)) (position_of S.Source.ahead names.old source.old) read))).stands }
-    ensures onward { Onward (S.Source.reads (categories_of (book_of book.now))) source.old.below source.new.below }
+    ensures { Feeds S.Source.ahead S.Source.place S.Source.reads (book_of book.now) names.old names.new source.old source.new result (A.Automaton.feeds rule.now) start }
 {
     driven(source, categories(book), names, rule, start)
 }

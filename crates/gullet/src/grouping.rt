@@ -16,7 +16,7 @@ use sources::Source;
 use tokens::{Answer, GroupKind};
 
 impl<S: Source> Gullet<S> {
-    // A refusal by the book, at the present place.
+    // A refusal by the book, at the present place: `refusal` with another cause, for which a trait would be longer.
     pub(crate) fn refused_by_book(&self, fault: BookFault) -> GulletFault
         ensures { result ≡ fault_at (place_of S.Source.place self.now) (record { cause = book fault; status = Normal }) }
     {

@@ -24,23 +24,14 @@ impl Automaton for Lets<'_> {
 
     fn feed(&self, phase: Letting, token: Token) -> ControlFlow<Token, Letting> {
         match phase {
-            Letting::BeforeEquals => {
-                if is_space(self.book, token) {
-                    ControlFlow::Continue(Letting::BeforeEquals)
-                } else if is_equals(token) {
-                    ControlFlow::Continue(Letting::BehindEquals)
-                } else {
-                    ControlFlow::Break(token)
-                }
+            Letting::BeforeEquals if is_space(self.book, token) => ControlFlow::Continue(phase),
+            Letting::BeforeEquals if is_equals(token) => {
+                ControlFlow::Continue(Letting::BehindEquals)
             }
-            Letting::BehindEquals => {
-                if is_space(self.book, token) {
-                    ControlFlow::Continue(Letting::BehindSpace)
-                } else {
-                    ControlFlow::Break(token)
-                }
+            Letting::BehindEquals if is_space(self.book, token) => {
+                ControlFlow::Continue(Letting::BehindSpace)
             }
-            Letting::BehindSpace => ControlFlow::Break(token),
+            _ => ControlFlow::Break(token),
         }
     }
 }

@@ -6,7 +6,7 @@ use piles::PutBack;
 use sources::{PileFault, PileRefusal, Source};
 use tokens::Token;
 
-// The most tokens that may be put back at a time.
+// The most tokens that may be put back at a time: piles keeps the same limit, and does not show it.
 pub(crate) const PUT_BACK_LIMIT: usize = 4_096;
 
 // Puts a result back, and in front of it the tokens that wait for it: all of them, or none.

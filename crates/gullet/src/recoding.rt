@@ -27,13 +27,8 @@ impl Automaton for Subjects {
 
     fn feed(&self, phase: Subject, token: Token) -> ControlFlow<Option<Token>, Subject> {
         match phase {
-            Subject::BeforeQuote => {
-                if is_quote(token) {
-                    ControlFlow::Continue(Subject::BehindQuote)
-                } else {
-                    ControlFlow::Break(None)
-                }
-            }
+            Subject::BeforeQuote if is_quote(token) => ControlFlow::Continue(Subject::BehindQuote),
+            Subject::BeforeQuote => ControlFlow::Break(None),
             Subject::BehindQuote => ControlFlow::Break(Some(token)),
         }
     }
@@ -59,12 +54,10 @@ impl Automaton for Numbers {
     ghost feeds = { λ _. number_feed };
 
     fn feed(&self, phase: Number, token: Token) -> ControlFlow<Option<(u8, Token)>, Number> {
-        if let Number::BeforeNumber = phase {
-            if is_equals(token) {
-                return ControlFlow::Continue(Number::BeforeDigit);
-            }
-        }
         match (phase, digit_of(token)) {
+            (Number::BeforeNumber, _) if is_equals(token) => {
+                ControlFlow::Continue(Number::BeforeDigit)
+            }
             (Number::InDigits(value), Some(digit)) => one_digit(value, digit),
             (Number::InDigits(value), None) => ControlFlow::Break(Some((value, token))),
             (_, Some(digit)) => one_digit(0, digit),
