@@ -13,13 +13,15 @@ pub enum BookFault {
     GroupsFull = 46,
 }
 
-impl BookFault {
-    pub fn number(self) -> u8
-        ensures { result ≡ number_of self }
-    {
-        self as u8
-    }
+impl From<BookFault> for u8 {
+    ghost from_gives = { λ fault n. n ≡ number_of fault };
 
+    fn from(fault: BookFault) -> u8 {
+        fault as u8
+    }
+}
+
+impl BookFault {
     // Every fault here is the book's own.
     pub fn layer(self) -> Layer
         ensures { result ≡ layer_of self }

@@ -6,8 +6,7 @@ const NAME: u16 = 272;
 
 // The number that a refusal has, if there is one.
 pub(crate) fn number(answer: Result<(), BookFault>) -> Option<u8> {
-    let fault = answer.err()?;
-    Some(fault.number())
+    answer.err().map(u8::from)
 }
 
 // The code of the one character that a macro's body has.

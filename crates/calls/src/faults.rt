@@ -12,7 +12,7 @@ impl MatcherFault {
     {
         match self.cause {
             MatcherCause::Pile(fault) => fault.number(),
-            MatcherCause::Matcher(refusal, _) => refusal.number(),
+            MatcherCause::Matcher(refusal, _) => u8::from(refusal),
         }
     }
 

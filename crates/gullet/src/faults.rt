@@ -12,9 +12,9 @@ impl GulletFault {
     {
         match self.cause {
             Cause::Pile(fault) => fault.number(),
-            Cause::Matcher(refusal, _) => refusal.number(),
-            Cause::Book(fault, _) => fault.number(),
-            Cause::Gullet(refusal, _) => refusal.number(),
+            Cause::Matcher(refusal, _) => u8::from(refusal),
+            Cause::Book(fault, _) => u8::from(fault),
+            Cause::Gullet(refusal, _) => u8::from(refusal),
         }
     }
 

@@ -14,10 +14,10 @@ pub enum MatcherRefusal {
     TooLong = 42,
 }
 
-impl MatcherRefusal {
-    pub fn number(self) -> u8
-        ensures { result ≡ refusal_number self }
-    {
-        self as u8
+impl From<MatcherRefusal> for u8 {
+    ghost from_gives = { λ refusal n. n ≡ refusal_number refusal };
+
+    fn from(refusal: MatcherRefusal) -> u8 {
+        refusal as u8
     }
 }

@@ -10,10 +10,10 @@ pub enum NamesFault {
     Full = 13,
 }
 
-impl NamesFault {
-    pub fn number(self) -> u8
-        ensures { result ≡ fault_number self }
-    {
-        self as u8
+impl From<NamesFault> for u8 {
+    ghost from_gives = { λ fault n. n ≡ fault_number fault };
+
+    fn from(fault: NamesFault) -> u8 {
+        fault as u8
     }
 }

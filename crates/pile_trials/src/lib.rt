@@ -3,10 +3,9 @@
 
 #[cfg(test)]
 mod depth;
+#[cfg(test)]
 mod reading;
 #[cfg(test)]
 mod refusals;
 #[cfg(test)]
 mod seams;
-
-pub use reading::Trial;

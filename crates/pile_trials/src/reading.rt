@@ -1,33 +1,11 @@
 use names::Names;
-use sources::{MakeFault, PileFault, Place, Source, Text};
+use sources::{PileFault, Place, Source, Text};
 use std::alloc::{AllocError, Global};
 use std::fmt::Write;
+use std::test::Fail;
 use tokens::Category;
 
-// Why a trial cannot be run.
-#[derive(Clone, Copy, Debug)]
-pub enum Trial {
-    NoMemory,
-    NoText,
-    NoEnd,
-}
-
-impl From<AllocError> for Trial {
-    fn from(_: AllocError) -> Trial {
-        Trial::NoMemory
-    }
-}
-
-impl From<MakeFault> for Trial {
-    fn from(fault: MakeFault) -> Trial {
-        match fault {
-            MakeFault::NoMemory => Trial::NoMemory,
-            MakeFault::Refused(_) => Trial::NoText,
-        }
-    }
-}
-
-pub(crate) fn text(heap: Global, bytes: &[u8]) -> Result<Text, Trial> {
+pub(crate) fn text(heap: Global, bytes: &[u8]) -> Result<Text, Fail> {
     Ok(Text::new(heap, bytes.to_vec(heap)?)?)
 }
 
@@ -45,7 +23,7 @@ pub(crate) fn traced<S: Source>(
     heap: Global,
     source: &mut S,
     names: &mut Names,
-) -> Result<String, Trial> {
+) -> Result<String, Fail> {
     let mut written = String::new(heap);
     let table = Category::first_table();
     for _ in 0..100 {
@@ -63,5 +41,5 @@ pub(crate) fn traced<S: Source>(
         }
         written.push_str(" ")?;
     }
-    Err(Trial::NoEnd)
+    Err(Fail::new("there is no end"))
 }

@@ -1,10 +1,10 @@
-use crate::reading::{Trial, text, traced};
+use crate::reading::{text, traced};
 use names::Names;
 use piles::Join;
 use std::alloc::Global;
 use std::test::Fail;
 
-fn joined(heap: Global, first: &[u8], second: &[u8], names: &mut Names) -> Result<String, Trial> {
+fn joined(heap: Global, first: &[u8], second: &[u8], names: &mut Names) -> Result<String, Fail> {
     let mut join = Join::new(text(heap, first)?, text(heap, second)?);
     traced(heap, &mut join, names)
 }

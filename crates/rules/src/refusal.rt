@@ -22,10 +22,10 @@ pub enum GulletRefusal {
     TasksFull = 48,
 }
 
-impl GulletRefusal {
-    pub fn number(self) -> u8
-        ensures { result ≡ refusal_number self }
-    {
-        self as u8
+impl From<GulletRefusal> for u8 {
+    ghost from_gives = { λ refusal n. n ≡ refusal_number refusal };
+
+    fn from(refusal: GulletRefusal) -> u8 {
+        refusal as u8
     }
 }

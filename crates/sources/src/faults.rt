@@ -4,19 +4,19 @@ ghost use Rattle.sources.specs.Faults.{line_number, pile_number, read_number, re
 use crate::fault::{LineFault, LineRefusal, PileFault, PileRefusal, Place, ReadRefusal};
 use tokens::Layer;
 
-impl LineRefusal {
-    fn number(self) -> u8
-        ensures { result ≡ line_number self }
-    {
-        self as u8
+impl From<LineRefusal> for u8 {
+    ghost from_gives = { λ refusal n. n ≡ line_number refusal };
+
+    fn from(line: LineRefusal) -> u8 {
+        line as u8
     }
 }
 
-impl PileRefusal {
-    fn number(self) -> u8
-        ensures { result ≡ pile_number self }
-    {
-        self as u8
+impl From<PileRefusal> for u8 {
+    ghost from_gives = { λ refusal n. n ≡ pile_number refusal };
+
+    fn from(pile: PileRefusal) -> u8 {
+        pile as u8
     }
 }
 
@@ -25,8 +25,8 @@ impl LineFault {
         ensures { result ≡ read_number self.refusal }
     {
         match self.refusal {
-            ReadRefusal::Line(refusal) => refusal.number(),
-            ReadRefusal::Names(fault) => fault.number(),
+            ReadRefusal::Line(refusal) => u8::from(refusal),
+            ReadRefusal::Names(fault) => u8::from(fault),
         }
     }
 
@@ -46,7 +46,7 @@ impl PileFault {
     {
         match self {
             PileFault::Line(fault) => fault.number(),
-            PileFault::Pile(refusal, _) => refusal.number(),
+            PileFault::Pile(refusal, _) => u8::from(refusal),
         }
     }
 

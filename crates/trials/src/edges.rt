@@ -12,10 +12,7 @@ fn the_last_number(rt: HostRuntime) -> Result<(), Fail> {
         assert_eq!(rt; names.enter(&[high, low]), Ok(272 + i));
     }
     assert_eq!(rt; names.taken(), 1024);
-    assert_eq!(rt;
-        names.enter(b"one more").map_err(|fault| fault.number()),
-        Err(13)
-    );
+    assert_eq!(rt; names.enter(b"one more").map_err(u8::from), Err(13));
     assert_eq!(rt; names.taken(), 1024);
     assert_eq!(rt; names.number(b"one more"), None);
     assert_eq!(rt; names.number(b"fi"), Some(271));

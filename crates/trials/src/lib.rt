@@ -3,8 +3,7 @@
 
 #[cfg(test)]
 mod edges;
+#[cfg(test)]
 mod reading;
 #[cfg(test)]
 mod sheets;
-
-pub use reading::Trial;
