@@ -3,14 +3,16 @@
 --   depth_of     how deep braces are there
 --   end_of       what comes of it, the words being in the draft
 --   moved        a move of the code by one token, as the rules say it
+--   Moves        a move is what the rules say, and goes on no deeper in braces than the body has words
 --   defined_of   an answer
-use Rattle.std.specs.Prelude.{ℕ, Ok, Err, vec_items, Result}
+use Rattle.std.specs.Prelude.{◌≡◌, ℕ, Ok, Err, vec_items, vec_len, Result}
 use Rattle.std.specs.declared.ops.ControlFlow.{ControlFlow}
 use Rattle.std.specs.declared.ops.ControlFlow.TheVariants.{Continue, Break}
 use Rattle.matching.specs.Matching.{Move, on, out}
 use Rattle.sources.specs.declared.fault.PileFault.{PileFault}
 use Rattle.rules.specs.Defining as model
 use Rattle.rules.specs.Defining.{Definition, in_text, hash_in_text, in_body, hash_in_body, defines, broken, too_long}
+use Rattle.gullet.specs.Automata.{meant, Within}
 use Rattle.gullet.specs.declared.draft.Draft.{Draft}
 use Rattle.gullet.specs.declared.draft.Stage.{Stage}
 use Rattle.gullet.specs.declared.draft.Stage.TheVariants.{InText, HashInText, InBody, HashInBody}
@@ -37,6 +39,10 @@ end_of TooLong d = too_long
 abbrev pub moved : ControlFlow DefinitionEnd Stage → Draft → Move Definition model.Defined
 moved (Continue s) d = on (view s d)
 moved (Break e) d = out (end_of e d)
+
+pub record Moves (result : ControlFlow DefinitionEnd Stage) (draft : Draft) (move : Move Definition model.Defined) : Type 0 where
+  pub moves : moved result draft ≡ move
+  pub within : Within depth_of (vec_len draft.body) (meant result)
 
 abbrev pub defined_of : Result DefinitionEnd PileFault → Draft → Result model.Defined PileFault
 defined_of (Ok e) d = Ok (end_of e d)
