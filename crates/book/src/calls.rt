@@ -18,7 +18,6 @@ use tokens::{BodyWord, Category, GroupKind, ParameterWord, Scope};
 // The most words of one definition.
 const DEFINITION: usize = 2048;
 
-// The number of a kind of group.
 impl Book {
     // A new book. All the memory that it will ever use is taken here.
     pub fn new(heap: Global) -> Result<Book, AllocError>

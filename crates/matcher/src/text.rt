@@ -10,7 +10,7 @@ pub(crate) const WORDS_LIMIT: usize = 2_048;
 pub(crate) const PARAMETERS_LIMIT: usize = 9;
 
 // A parameter text that a macro may have.
-#[derive(Clone, Copy)]
+#[derive(Clone, Copy, Debug, PartialEq, Eq)]
 pub struct ParameterText<'a> {
     pub(crate) words: &'a [ParameterWord],
     ghost short: { length words.now ≤ 2048 },

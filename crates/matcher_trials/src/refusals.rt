@@ -1,5 +1,7 @@
 use crate::trying::tried_text;
+use matcher::{NoText, ParameterText};
 use std::test::Fail;
+use tokens::ParameterWord;
 
 #[test]
 fn each_with_its_place(rt: HostRuntime) -> Result<(), Fail> {
@@ -69,5 +71,13 @@ fn the_end(rt: HostRuntime) -> Result<(), Fail> {
         tried_text(heap, b"a\x7f", true, b"#x")?.as_str(),
         "11@1.2 matching"
     );
+    Ok(())
+}
+
+#[test]
+fn ten_parameters(rt: HostRuntime) -> Result<(), Fail> {
+    let ten = [ParameterWord::Parameter; 10];
+    assert_eq!(rt; ParameterText::try_from(&ten[..]), Err(NoText));
+    assert!(rt; ParameterText::try_from(&ten[1..]).is_ok());
     Ok(())
 }

@@ -2,7 +2,6 @@ ghost use Rattle.std.specs.Prelude.{◌≡◌, ◌≤◌, [], ◌∷◌, length}
 ghost use Rattle.std.specs.Cmp.Lexicographic.{bytes_decides, nat_list_eq_equiv};
 ghost use Rattle.std.specs.Str.{bytes_eq};
 ghost use Rattle.std.proofs.Common.{ap};
-ghost use Rattle.names.specs.Entries.{spelled};
 
 use arrayvec::ArrayVec;
 use indexmap::Equivalent;
@@ -15,9 +14,12 @@ pub const SPELLING_LIMIT: usize = 32;
 #[derive(Debug, PartialEq, Eq, Drop)]
 pub struct Spelling {
     pub(crate) bytes: ArrayVec<u8, SPELLING_LIMIT>,
+    ghost short: { length bytes.items ≤ 32 },
 }
 
 impl Spelling {
+    ghost use Rattle.names.specs.Entries.{spelled};
+
     pub(crate) fn of(bytes: &[u8]) -> Spelling
         requires { length bytes.now ≤ 32 }
         ensures { spelled result ≡ bytes.now }
@@ -29,6 +31,8 @@ impl Spelling {
 }
 
 impl Hash for Spelling {
+    ghost use Rattle.names.specs.Entries.{spelled};
+
     ghost hash_input = { λ s. spelled s ∷ [] };
 
     ghost respects_eq = { λ s t h. ap (λ l. l ∷ []) ((bytes_decides (spelled s) (spelled t)).0 h) };
@@ -53,6 +57,8 @@ impl Hash for Sought<'_> {
 }
 
 impl Equivalent<Spelling> for Sought<'_> {
+    ghost use Rattle.names.specs.Entries.{spelled};
+
     ghost equivalent = { λ s t. bytes_eq s.0.now (spelled t) };
 
     ghost respects_hash = { λ s t h. ap (λ l. l ∷ []) ((bytes_decides s.0.now (spelled t)).0 h) };
