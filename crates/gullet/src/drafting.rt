@@ -15,12 +15,12 @@ use tokens::{BodyWord, ParameterWord, Token};
 impl Draft {
     // One word more in the parameter text, which then has so many parameters.
     fn more_text(&mut self, word: ParameterWord, count: u8) -> ControlFlow<DefinitionEnd, Stage>
-        ensures { Moves result self.new (room (length self.old.parameters.items) (in_text (self.old.parameters.items ++ word ∷ []) count)) }
+        ensures { Moves result self.new (room (length self.old.parameters.held.items) (in_text (self.old.parameters.held.items ++ word ∷ []) count)) }
     {
-        if self.parameters.len() >= WORDS_LIMIT {
+        if self.parameters.held.len() >= WORDS_LIMIT {
             return ControlFlow::Break(DefinitionEnd::TooLong);
         }
-        self.parameters.push_reserved(word);
+        self.parameters.held.push_reserved(word);
         ControlFlow::Continue(Stage::InText { count })
     }
 
@@ -31,21 +31,21 @@ impl Draft {
         count: u8,
         depth: u64,
     ) -> ControlFlow<DefinitionEnd, Stage>
-        requires { depth ≤ vec_len self.old.body + 1 }
-        ensures { Moves result self.new (one_more self.old.parameters.items count self.old.body.items word depth) }
+        requires { depth ≤ vec_len self.old.body.held + 1 }
+        ensures { Moves result self.new (one_more self.old.parameters.held.items count self.old.body.held.items word depth) }
     {
-        if self.parameters.len() >= WORDS_LIMIT - self.body.len() {
+        if self.parameters.held.len() >= WORDS_LIMIT - self.body.held.len() {
             return ControlFlow::Break(DefinitionEnd::TooLong);
         }
-        self.body.push_reserved(word);
+        self.body.held.push_reserved(word);
         ControlFlow::Continue(Stage::InBody { count, depth })
     }
 
     fn in_text(&mut self, book: &Book, count: u8, token: Token) -> ControlFlow<DefinitionEnd, Stage>
-        ensures { Moves result self.new (definition_feed (meanings_of (book_of book.now)) (in_text self.old.parameters.items count) token) }
+        ensures { Moves result self.new (definition_feed (meanings_of (book_of book.now)) (in_text self.old.parameters.held.items count) token) }
     {
         if is_open(token) {
-            self.body.clear();
+            self.body.held.clear();
             return ControlFlow::Continue(Stage::InBody { count, depth: 0 });
         }
         if is_close(token) {
@@ -58,7 +58,7 @@ impl Draft {
     }
 
     fn hash_in_text(&mut self, count: u8, token: Token) -> ControlFlow<DefinitionEnd, Stage>
-        ensures { (f : Meanings) → Moves result self.new (definition_feed f (hash_in_text self.old.parameters.items count) token) }
+        ensures { (f : Meanings) → Moves result self.new (definition_feed f (hash_in_text self.old.parameters.held.items count) token) }
     {
         if count < 9 && is_digit(count + 1, token) {
             self.more_text(ParameterWord::Parameter, count + 1)
@@ -74,8 +74,8 @@ impl Draft {
         depth: u64,
         token: Token,
     ) -> ControlFlow<DefinitionEnd, Stage>
-        requires { depth ≤ vec_len self.old.body }
-        ensures { Moves result self.new (definition_feed (meanings_of (book_of book.now)) (in_body self.old.parameters.items count self.old.body.items depth) token) }
+        requires { depth ≤ vec_len self.old.body.held }
+        ensures { Moves result self.new (definition_feed (meanings_of (book_of book.now)) (in_body self.old.parameters.held.items count self.old.body.held.items depth) token) }
     {
         let word = BodyWord::Token(token);
         if is_open(token) {
@@ -100,8 +100,8 @@ impl Draft {
         depth: u64,
         token: Token,
     ) -> ControlFlow<DefinitionEnd, Stage>
-        requires { depth ≤ vec_len self.old.body }
-        ensures { Moves result self.new (definition_feed (meanings_of (book_of book.now)) (hash_in_body self.old.parameters.items count self.old.body.items depth) token) }
+        requires { depth ≤ vec_len self.old.body.held }
+        ensures { Moves result self.new (definition_feed (meanings_of (book_of book.now)) (hash_in_body self.old.parameters.held.items count self.old.body.held.items depth) token) }
     {
         if is_hash(book, token) {
             return self.more_body(BodyWord::Token(token), count, depth);
@@ -121,7 +121,7 @@ impl Draft {
         stage: Stage,
         token: Token,
     ) -> ControlFlow<DefinitionEnd, Stage>
-        requires { depth_of stage ≤ vec_len self.old.body }
+        requires { depth_of stage ≤ vec_len self.old.body.held }
         ensures { Moves result self.new (definition_feed (meanings_of (book_of book.now)) (view stage self.old) token) }
     {
         match stage {
