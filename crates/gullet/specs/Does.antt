@@ -3,6 +3,7 @@
 --   Does       it is answered what a rule of a step or a call answers, and leaves its state
 --   Finds      a rule was fed, and what came of it is told
 --   ReadsOn    what the reads in between make of the source below, by the relation of one read
+--   Unread     no read of the source below is in between
 use Rattle.std.specs.Prelude.{◌≡◌, List, Result}
 use Rattle.tokens.specs.declared.answer.Answer.{Answer}
 use Rattle.tokens.specs.declared.token.Token.{Token}
@@ -32,3 +33,6 @@ pub record Finds {S O A : Type 0} (ahead : S → List Item) (place : S → Place
 
 abbrev pub ReadsOn : {S : Type 0} → Reading S → Gullet S → Gullet S → Type 0
 ReadsOn reads old new = Onward (reads (categories_of (book_of old.book))) old.source.below new.source.below
+
+abbrev pub Unread : {S : Type 0} → Gullet S → Gullet S → Type 0
+Unread old new = new.source.below ≡ old.source.below

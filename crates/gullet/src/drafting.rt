@@ -1,10 +1,9 @@
-ghost use Rattle.std.specs.Prelude.{◌≡◌, ◌+◌, ◌≤◌, [], ◌∷◌, ◌++◌, length, vec_len};
+ghost use Rattle.std.specs.Prelude.{◌+◌, ◌≤◌, [], ◌∷◌, ◌++◌, length, vec_len};
 ghost use Rattle.book.specs.Said.{book_of};
-ghost use Rattle.gullet.specs.Automata.{meant, Within};
 ghost use Rattle.rules.specs.Defining.{in_text, hash_in_text, in_body, hash_in_body, room, one_more, definition_feed};
 ghost use Rattle.rules.specs.States.{meanings_of};
 ghost use Rattle.rules.specs.Tokens.{Meanings};
-ghost use Rattle.gullet.specs.Drafts.{view, moved, depth_of};
+ghost use Rattle.gullet.specs.Drafts.{view, depth_of, Moves};
 
 use crate::draft::{DefinitionEnd, Draft, Stage, WORDS_LIMIT};
 use crate::telling::{digit_of, is_digit, is_hash};
@@ -16,13 +15,12 @@ use tokens::{BodyWord, ParameterWord, Token};
 impl Draft {
     // One word more in the parameter text, which then has so many parameters.
     fn more_text(&mut self, word: ParameterWord, count: u8) -> ControlFlow<DefinitionEnd, Stage>
-        ensures moves { moved result self.new ≡ room (length self.old.parameters.items) (in_text (self.old.parameters.items ++ word ∷ []) count) }
-        ensures within { Within depth_of (vec_len self.new.body) (meant result) }
+        ensures { Moves result self.new (room (length self.old.parameters.held.items) (in_text (self.old.parameters.held.items ++ word ∷ []) count)) }
     {
-        if self.parameters.len() >= WORDS_LIMIT {
+        if self.parameters.held.len() >= WORDS_LIMIT {
             return ControlFlow::Break(DefinitionEnd::TooLong);
         }
-        self.parameters.push_reserved(word);
+        self.parameters.held.push_reserved(word);
         ControlFlow::Continue(Stage::InText { count })
     }
 
@@ -33,23 +31,21 @@ impl Draft {
         count: u8,
         depth: u64,
     ) -> ControlFlow<DefinitionEnd, Stage>
-        requires { depth ≤ vec_len self.old.body + 1 }
-        ensures moves { moved result self.new ≡ one_more self.old.parameters.items count self.old.body.items word depth }
-        ensures within { Within depth_of (vec_len self.new.body) (meant result) }
+        requires { depth ≤ vec_len self.old.body.held + 1 }
+        ensures { Moves result self.new (one_more self.old.parameters.held.items count self.old.body.held.items word depth) }
     {
-        if self.parameters.len() >= WORDS_LIMIT - self.body.len() {
+        if self.parameters.held.len() >= WORDS_LIMIT - self.body.held.len() {
             return ControlFlow::Break(DefinitionEnd::TooLong);
         }
-        self.body.push_reserved(word);
+        self.body.held.push_reserved(word);
         ControlFlow::Continue(Stage::InBody { count, depth })
     }
 
     fn in_text(&mut self, book: &Book, count: u8, token: Token) -> ControlFlow<DefinitionEnd, Stage>
-        ensures moves { moved result self.new ≡ definition_feed (meanings_of (book_of book.now)) (in_text self.old.parameters.items count) token }
-        ensures within { Within depth_of (vec_len self.new.body) (meant result) }
+        ensures { Moves result self.new (definition_feed (meanings_of (book_of book.now)) (in_text self.old.parameters.held.items count) token) }
     {
         if is_open(token) {
-            self.body.clear();
+            self.body.held.clear();
             return ControlFlow::Continue(Stage::InBody { count, depth: 0 });
         }
         if is_close(token) {
@@ -62,8 +58,7 @@ impl Draft {
     }
 
     fn hash_in_text(&mut self, count: u8, token: Token) -> ControlFlow<DefinitionEnd, Stage>
-        ensures moves { (f : Meanings) → moved result self.new ≡ definition_feed f (hash_in_text self.old.parameters.items count) token }
-        ensures within { Within depth_of (vec_len self.new.body) (meant result) }
+        ensures { (f : Meanings) → Moves result self.new (definition_feed f (hash_in_text self.old.parameters.held.items count) token) }
     {
         if count < 9 && is_digit(count + 1, token) {
             self.more_text(ParameterWord::Parameter, count + 1)
@@ -79,9 +74,8 @@ impl Draft {
         depth: u64,
         token: Token,
     ) -> ControlFlow<DefinitionEnd, Stage>
-        requires { depth ≤ vec_len self.old.body }
-        ensures moves { moved result self.new ≡ definition_feed (meanings_of (book_of book.now)) (in_body self.old.parameters.items count self.old.body.items depth) token }
-        ensures within { Within depth_of (vec_len self.new.body) (meant result) }
+        requires { depth ≤ vec_len self.old.body.held }
+        ensures { Moves result self.new (definition_feed (meanings_of (book_of book.now)) (in_body self.old.parameters.held.items count self.old.body.held.items depth) token) }
     {
         let word = BodyWord::Token(token);
         if is_open(token) {
@@ -106,9 +100,8 @@ impl Draft {
         depth: u64,
         token: Token,
     ) -> ControlFlow<DefinitionEnd, Stage>
-        requires { depth ≤ vec_len self.old.body }
-        ensures moves { moved result self.new ≡ definition_feed (meanings_of (book_of book.now)) (hash_in_body self.old.parameters.items count self.old.body.items depth) token }
-        ensures within { Within depth_of (vec_len self.new.body) (meant result) }
+        requires { depth ≤ vec_len self.old.body.held }
+        ensures { Moves result self.new (definition_feed (meanings_of (book_of book.now)) (hash_in_body self.old.parameters.held.items count self.old.body.held.items depth) token) }
     {
         if is_hash(book, token) {
             return self.more_body(BodyWord::Token(token), count, depth);
@@ -128,9 +121,8 @@ impl Draft {
         stage: Stage,
         token: Token,
     ) -> ControlFlow<DefinitionEnd, Stage>
-        requires { depth_of stage ≤ vec_len self.old.body }
-        ensures moves { moved result self.new ≡ definition_feed (meanings_of (book_of book.now)) (view stage self.old) token }
-        ensures within { Within depth_of (vec_len self.new.body) (meant result) }
+        requires { depth_of stage ≤ vec_len self.old.body.held }
+        ensures { Moves result self.new (definition_feed (meanings_of (book_of book.now)) (view stage self.old) token) }
     {
         match stage {
             Stage::InText { count } => self.in_text(book, count, token),

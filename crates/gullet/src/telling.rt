@@ -18,7 +18,7 @@ pub(crate) fn meaning_of(book: &Book, token: Token) -> Meaning<'_>
     }
 }
 
-// Whether it means a space.
+// Whether it means a space. This test and the next are plainer than one with a category and calls of it.
 pub(crate) fn is_space(book: &Book, token: Token) -> bool
     ensures { result ≡ is_space (meanings_of (book_of book.now)) token }
 {
