@@ -5,4 +5,4 @@ use Rattle.tokens.specs.declared.token.Token.{Token}
 use Rattle.piles.specs.declared.held.Held.{Held}
 
 abbrev pub held_tokens : Held → List Token
-held_tokens h = reverse (vec_items h.tokens)
+held_tokens h = reverse (vec_items h.tokens.held)

@@ -4,6 +4,7 @@ ghost use Rattle.piles.specs.Inserting.{tokens_in};
 ghost use Rattle.piles.specs.Helds.{held_tokens};
 
 use crate::held::{Held, PUT_BACK_LIMIT};
+use buffers::Buffer;
 use std::alloc::{AllocError, Global};
 use tokens::Token;
 
@@ -12,21 +13,21 @@ impl Held {
         ensures { IfOk result (λ h. held_tokens h ≡ []) }
     {
         Ok(Held {
-            tokens: Vec::with_capacity(heap, PUT_BACK_LIMIT)?,
+            tokens: Buffer::new(heap)?,
         })
     }
 
     pub(crate) fn len(&self) -> usize
         ensures { result ≡ length (held_tokens self.now) }
     {
-        self.tokens.len()
+        self.tokens.held.len()
     }
 
     // Whether so many more may be put back.
     pub(crate) fn fits(&self, count: usize) -> bool
         ensures { result ≡ nat_le (count + length (held_tokens self.now)) 4096 }
     {
-        count <= PUT_BACK_LIMIT - self.tokens.len()
+        count <= PUT_BACK_LIMIT - self.tokens.held.len()
     }
 
     // The next one, if there is one.
@@ -34,7 +35,7 @@ impl Held {
         ensures items { held_tokens self.old ≡ option_to_list result ++ held_tokens self.new }
         ensures nothing { IfNone result (held_tokens self.new ≡ []) }
     {
-        self.tokens.pop()
+        self.tokens.held.pop()
     }
 
     // Puts tokens in front, in their order.
@@ -43,7 +44,7 @@ impl Held {
         ensures { held_tokens self.new ≡ tokens.now ++ held_tokens self.old }
     {
         for token in tokens.iter().rev() {
-            self.tokens.push_reserved(*token);
+            self.tokens.held.push_reserved(*token);
         }
     }
 
@@ -54,7 +55,7 @@ impl Held {
     {
         for word in words.iter().rev() {
             if let Ok(token) = Token::try_from(*word) {
-                self.tokens.push_reserved(token);
+                self.tokens.held.push_reserved(token);
             }
         }
     }

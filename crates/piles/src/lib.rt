@@ -10,5 +10,6 @@ mod put_back_source;
 mod putting;
 mod words;
 
+pub use held::PUT_BACK_LIMIT;
 pub use join::Join;
 pub use put_back::PutBack;

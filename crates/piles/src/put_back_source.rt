@@ -21,7 +21,7 @@ impl<S: Source> Source for PutBack<S> {
     ghost most = { 4096 + S.Source.most };
 
     ghost bounded = { λ s.
-        let v = s.held.tokens in
+        let v = s.held.tokens.held in
         omega (
           arith,
           v.ok.0,

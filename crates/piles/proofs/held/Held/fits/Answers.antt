@@ -8,5 +8,5 @@ pub returns : goal.returns
 returns c =
     let h = c.args.self.now in
     let few : c.len.result ≤ 4096 = omega (arith, h.few) in
-    let n : c.len.result ≡ length (held_tokens h) = c.len.ensures ∙ h.tokens.ok.0 ∙ sym (length-reverse (vec_items h.tokens)) in
+    let n : c.len.result ≡ length (held_tokens h) = c.len.ensures ∙ h.tokens.held.ok.0 ∙ sym (length-reverse (vec_items h.tokens.held)) in
     fits_same c.args.count c.len.result few ∙ ap (λ k. leb (c.args.count + k) 4096) n

@@ -4,5 +4,5 @@ use Rattle.piles.proofs.held.Held.len.Goals as goal
 
 pub returns : goal.returns
 returns c =
-    let v = c.args.self.now.tokens in
+    let v = c.args.self.now.tokens.held in
     c.len.ensures ∙ v.ok.0 ∙ sym (length-reverse (vec_items v))

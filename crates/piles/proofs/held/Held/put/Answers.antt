@@ -8,13 +8,13 @@ use Rattle.piles.proofs.held.Held.put.Goals as goal
 
 pub loop-token-init : goal.loop-token-init
 loop-token-init c =
-    let v = c.args.self.now.tokens in
+    let v = c.args.self.now.tokens.held in
     let e : iter_rest (rev_source c.into_iter-token-iterator.result) ≡ c.args.tokens.now = ap (λ r. iter_rest (rev_source r)) c.into_iter-token-iterator.ensures.into_iter_gives ∙ ap iter_rest c.rev-token-items.ensures.source ∙ c.iter.ensures.rest in
     (tt, tt, ap (λ l. l ++ held_tokens c.args.self.now) e, omega (arith, c.requires, v.ok.0, length-reverse (vec_items v), ap length e))
 
 pub loop-token-preserved : goal.loop-token-preserved
 loop-token-preserved c =
-    let v = c.loop-token.self.tokens in
+    let v = c.loop-token.self.tokens.held in
     let w = c.push_reserved.new.self in
     let rest = iter_rest (rev_source c.loop-token.token-iterator) in
     let less = iter_rest (rev_source c.next.new.self) in

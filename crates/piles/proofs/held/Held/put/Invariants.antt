@@ -9,4 +9,4 @@ invariant-loop-token l =
     (goal.iterator-loop-token).can_next l.token-iterator
     × (goal.iterator-loop-token).is_finite l.token-iterator
     × (iter_rest (rev_source l.token-iterator) ++ held_tokens l.self ≡ l.tokens ++ held_tokens l.initial.self)
-    × (length (iter_rest (rev_source l.token-iterator)) + vec_len l.self.tokens ≤ 4096)
+    × (length (iter_rest (rev_source l.token-iterator)) + vec_len l.self.tokens.held ≤ 4096)

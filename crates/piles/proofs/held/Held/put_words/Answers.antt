@@ -9,13 +9,13 @@ use Rattle.piles.proofs.held.Held.put_words.Goals as goal
 
 pub loop-word-init : goal.loop-word-init
 loop-word-init c =
-    let v = c.args.self.now.tokens in
+    let v = c.args.self.now.tokens.held in
     let e : iter_rest (rev_source c.into_iter-word-iterator.result) ≡ c.args.words.now = ap (λ r. iter_rest (rev_source r)) c.into_iter-word-iterator.ensures.into_iter_gives ∙ ap iter_rest c.rev-word-items.ensures.source ∙ c.iter.ensures.rest in
     (tt, tt, ap (λ l. tokens_in l ++ held_tokens c.args.self.now) e, omega (arith, c.requires, v.ok.0, length-reverse (vec_items v), ap length e))
 
 pub loop-word-preserved-in-Ok : goal.loop-word-preserved-in-Ok
 loop-word-preserved-in-Ok c =
-    let v = c.loop-word.self.tokens in
+    let v = c.loop-word.self.tokens.held in
     let w = c.push_reserved.new.self in
     let rest = iter_rest (rev_source c.loop-word.word-iterator) in
     let less = iter_rest (rev_source c.next.new.self) in
@@ -29,7 +29,7 @@ loop-word-preserved-in-Ok c =
 
 pub loop-word-preserved : goal.loop-word-preserved
 loop-word-preserved c =
-    let v = c.loop-word.self.tokens in
+    let v = c.loop-word.self.tokens.held in
     let rest = iter_rest (rev_source c.loop-word.word-iterator) in
     let less = iter_rest (rev_source c.next.new.self) in
     let e = c.in-Some.ensures.steps in

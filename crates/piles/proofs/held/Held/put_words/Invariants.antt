@@ -10,4 +10,4 @@ invariant-loop-word l =
     (goal.iterator-loop-word).can_next l.word-iterator
     × (goal.iterator-loop-word).is_finite l.word-iterator
     × (tokens_in (iter_rest (rev_source l.word-iterator)) ++ held_tokens l.self ≡ tokens_in l.words ++ held_tokens l.initial.self)
-    × (length (iter_rest (rev_source l.word-iterator)) + vec_len l.self.tokens ≤ 4096)
+    × (length (iter_rest (rev_source l.word-iterator)) + vec_len l.self.tokens.held ≤ 4096)
