@@ -14,26 +14,30 @@ pub enum Line {
     Stopped,
 }
 
-impl Line {
-    // The line for what a read answered.
-    pub fn of_read(answer: Result<Option<Token>, PileFault>) -> Line
-        ensures { result ≡ read_line answer }
-    {
-        match answer {
-            Ok(Some(token)) => Line::Word(u32::from(token)),
-            Ok(None) => Line::End,
-            Err(fault) => Line::of_fault(fault),
-        }
-    }
+// The line for a refusal: its number and its place.
+impl From<PileFault> for Line {
+    ghost from_gives = { λ fault line. line ≡ fault_line fault };
 
-    // The line for a refusal: its number and its place.
-    pub fn of_fault(fault: PileFault) -> Line
-        ensures { result ≡ fault_line fault }
-    {
+    fn from(fault: PileFault) -> Line {
         let place = fault.place();
         Line::Refused(fault.number(), place.line, place.bytes)
     }
+}
 
+// The line for what a read answered.
+impl From<Result<Option<Token>, PileFault>> for Line {
+    ghost from_gives = { λ answer line. line ≡ read_line answer };
+
+    fn from(answer: Result<Option<Token>, PileFault>) -> Line {
+        match answer {
+            Ok(Some(token)) => Line::Word(u32::from(token)),
+            Ok(None) => Line::End,
+            Err(fault) => Line::from(fault),
+        }
+    }
+}
+
+impl Line {
     pub fn is_end(self) -> bool
         ensures { result ≡ is_end self }
     {

@@ -22,14 +22,13 @@ fn write_trace<W: Write>(heap: Global, mut text: Text, out: &mut W) -> io::Resul
     let mut names = Names::new(heap)?;
     let categories = Category::first_table();
     for _ in 0..READ_LIMIT {
-        let line = Line::of_read(text.read(&categories, &mut names));
+        let line = Line::from(text.read(&categories, &mut names));
         writeln!(out, "{line}")?;
         if line.is_end() {
             return Ok(());
         }
     }
-    let line = Line::Stopped;
-    writeln!(out, "{line}")
+    writeln!(out, "{}", Line::Stopped)
 }
 
 fn main(rt: HostRuntime) -> io::Result<()> {
@@ -40,8 +39,7 @@ fn main(rt: HostRuntime) -> io::Result<()> {
     match Text::new(heap, bytes) {
         Ok(text) => write_trace(heap, text, &mut out)?,
         Err(MakeFault::Refused(fault)) => {
-            let line = Line::of_fault(fault);
-            writeln!(out, "{line}")?;
+            writeln!(out, "{}", Line::from(fault))?;
         }
         Err(MakeFault::NoMemory) => return Err(AllocError.into()),
     }
