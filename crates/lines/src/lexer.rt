@@ -33,7 +33,8 @@ fn name_part<'a>(rest: &'a [u8], categories: &[Category; 256]) -> &'a [u8]
     }
 }
 
-// What a byte gives, by the line's state and the byte's category together, with the bytes behind it.
+// What a byte gives, by the line's state and the byte's category together, with the bytes behind it. One match on both, as
+// the rules have it; so each category of a token stands by itself.
 fn piece_by<'a>(
     byte: u8,
     category: Category,

@@ -8,11 +8,11 @@ use indexmap::Equivalent;
 use std::hash::{Hash, Hasher};
 
 // The most bytes of a spelling.
-pub const SPELLING_LIMIT: usize = 32;
+pub(crate) const SPELLING_LIMIT: usize = 32;
 
 // The bytes of a name. They are hashed in one write, which takes fewer steps than one for each byte, as a derive has it.
 #[derive(Debug, PartialEq, Eq, Drop)]
-pub struct Spelling {
+pub(crate) struct Spelling {
     pub(crate) bytes: ArrayVec<u8, SPELLING_LIMIT>,
     ghost short: { length bytes.items ≤ 32 },
 }
@@ -44,7 +44,7 @@ impl Hash for Spelling {
 
 // The bytes by which a spelling is sought.
 #[derive(Clone, Copy, Debug, PartialEq, Eq)]
-pub struct Sought<'a>(pub(crate) &'a [u8]);
+pub(crate) struct Sought<'a>(pub(crate) &'a [u8]);
 
 impl Hash for Sought<'_> {
     ghost hash_input = { λ s. s.0.now ∷ [] };

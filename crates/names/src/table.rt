@@ -7,14 +7,14 @@ use crate::spelling::Spelling;
 use indexmap::IndexSet;
 
 // The number of the first spelling; those below it are the active characters'.
-pub const FIRST_NUMBER: u16 = 256;
+pub(crate) const FIRST_NUMBER: u16 = 256;
 
 // The most spellings: the numbers end below 1,024.
-pub const SPELLINGS_LIMIT: usize = 768;
+pub(crate) const SPELLINGS_LIMIT: usize = 768;
 
 // Spellings in the order in which they were entered, with memory for all.
 #[derive(Drop)]
-pub struct Table {
+pub(crate) struct Table {
     pub(crate) entries: IndexSet<Spelling>,
     ghost few: { index_set_len entries ≤ 768 },
     ghost room: { 768 ≤ index_set_len entries + spare entries },

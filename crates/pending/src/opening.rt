@@ -8,7 +8,7 @@ use crate::stack::Full;
 use std::mem;
 
 impl Conditionals {
-    // Begins one, in its first part: or nothing, where no more may be begun.
+    // Begins one, in its first part; refused where no more may be open.
     pub fn begin(&mut self) -> Result<(), Full>
         ensures answer { is_ok result ≡ nat_lt (length (parts_of self.old)) 100 }
         ensures parts { parts_of self.new ≡ joining 100 First (parts_of self.old) }

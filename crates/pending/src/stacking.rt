@@ -40,7 +40,7 @@ impl<T: Copy + Default, const LIMIT: usize> Stack<T, LIMIT> {
         self.held.is_full()
     }
 
-    // One more, which is then the newest: or nothing, where no more fit.
+    // One more, which is then the newest; refused where no more fit.
     pub fn push(&mut self, item: T) -> Result<(), Full>
         ensures answer { is_ok result ≡ nat_lt (length (items_of self.old)) LIMIT }
         ensures items { items_of self.new ≡ joining LIMIT item (items_of self.old) }
@@ -55,7 +55,7 @@ impl<T: Copy + Default, const LIMIT: usize> Stack<T, LIMIT> {
         self.held.last().copied()
     }
 
-    // The newest, lent to be changed. (By its index: the borrow checker shows no write-back through the whole slice.)
+    // The newest, lent to be changed. By its index: what is written through a loan of the whole slice is not known to come back.
     pub fn last_mut(&mut self) -> Option<&mut T>
         ensures* lent { sem 𝓛 (follows_if (stack_row T.row LIMIT.row) T.row self.entry.ghost_name (name_of result) (with_newest self.old) self.old) }
         ensures item { option_map (λ x. x.now) result ≡ front (items_of self.old) }

@@ -6,7 +6,7 @@ use crate::stack::Full;
 use crate::task::{NoPrefix, Prefix, Task, Tasks};
 
 impl Tasks {
-    // Starts a task: or nothing, where no more may be started.
+    // Starts a task; refused where no more may be under way.
     pub fn start(&mut self, task: Task) -> Result<(), Full>
         ensures answer { is_ok result ≡ nat_lt (length (tasks_of self.old)) 64 }
         ensures tasks { tasks_of self.new ≡ joining 64 task (tasks_of self.old) }

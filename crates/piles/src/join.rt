@@ -1,5 +1,5 @@
 // The side of a join that was read last.
-#[derive(Clone, Copy)]
+#[derive(Clone, Copy, Debug, PartialEq, Eq)]
 pub(crate) enum Side {
     First,
     Second,

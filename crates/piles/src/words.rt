@@ -16,7 +16,7 @@ fn is_known(word: u32, names: &Names) -> bool
     }
 }
 
-// Where the first word stands that is not known, if there is one.
+// Where the first word stands that is not known, if there is one. The loop has the index, since that place is the answer.
 pub(crate) fn first_bad(words: &[u32], names: &Names) -> Option<usize>
     ensures { result ≡ first_bad 0 (listed names.now) words.now }
 {

@@ -22,7 +22,7 @@ pub trait Source {
     ghost most: { ℕ };
 
     // The next token, or nothing where no item is left. Only this changes the place.
-    // The categories are lent by the book and the names stand elsewhere: a struct of both would be made for each read.
+    // Two parameters: a struct of both would have to say in every contract that the names behind its borrow are the same ones.
     fn read(
         &mut self,
         categories: &[Category; 256],
