@@ -35,14 +35,14 @@ impl Book {
     pub fn depth(&self) -> usize
         ensures { result ≡ length (book_of self.now).groups }
     {
-        self.kinds.len()
+        self.kinds.held.len()
     }
 
     // The kind of the innermost group.
     pub fn innermost(&self) -> Option<GroupKind>
         ensures { result ≡ innermost (book_of self.now).groups }
     {
-        self.kinds.last().copied()
+        self.kinds.held.last().copied()
     }
 
     // How many save records names have taken.
