@@ -22,7 +22,7 @@ fn first_meaning(name: u16) -> Held
 pub(crate) fn first_meanings(heap: Global) -> Result<Vec<Held>, AllocError>
     ensures { IfOk result (λ v. v.items ≡ map (λ k. Held.Plain (plain_first (primitive_of k))) (range_with_len 0 65536)) }
 {
-    // A range to `u16::MAX`, it among them, was tried: the library has lemmas on a range without its end only.
+    // `0..=u16::MAX` was tried: its proof does not close, as the library's lemmas are on ranges without their end.
     (0..NAMES)
         .map(|name| first_meaning(name as u16))
         .collect(heap)
