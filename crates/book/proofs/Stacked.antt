@@ -104,14 +104,14 @@ bases_popped xs ys b e = ap reverse e ∙ reverse-append ys (b ∷ [])
 
 -- of a grouped table: how many records and how many groups its state has
 module _ {V : Type 0} (d : Entry V) (t : Grouped V) where
-  pub records_of : vec_len t.saved ≡ records (state_of d t)
+  pub records_of : vec_len t.saved.held ≡ records (state_of d t)
   records_of =
-      let bs = reverse (vec_items t.bases) in
-      t.saved.ok.0
-      ∙ sym (groups_records bs (vec_items t.saved) (subst (λ (n : ℕ). bounded n bs ≡ true) t.saved.ok.0 t.based))
+      let bs = reverse (vec_items t.bases.held) in
+      t.saved.held.ok.0
+      ∙ sym (groups_records bs (vec_items t.saved.held) (subst (λ (n : ℕ). bounded n bs ≡ true) t.saved.held.ok.0 t.based))
 
-  pub depth_of : vec_len t.bases ≡ length (state_of d t).groups
-  depth_of = t.bases.ok.0 ∙ sym (length-reverse (vec_items t.bases)) ∙ sym (groups_length (reverse (vec_items t.bases)) (vec_items t.saved))
+  pub depth_of : vec_len t.bases.held ≡ length (state_of d t).groups
+  depth_of = t.bases.held.ok.0 ∙ sym (length-reverse (vec_items t.bases.held)) ∙ sym (groups_length (reverse (vec_items t.bases.held)) (vec_items t.saved.held))
 
 -- first levels
 pub zeros : (n k d : ℕ) → d ≡ 0 → get_or (replicate n 0) k d ≡ 0

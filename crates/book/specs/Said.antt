@@ -12,12 +12,12 @@ use Rattle.book.specs.Meanings.{Means, means_of}
 use Rattle.book.specs.Tabled.{state_of}
 
 abbrev pub read : Words → Held → Means
-read w = means_of (vec_items w.parameters) (vec_items w.bodies)
+read w = means_of (vec_items w.parameters.held) (vec_items w.bodies.held)
 
 abbrev pub book_of : Book → BookState
 book_of b = record {
   names = read_by (read b.words) (state_of no_meaning b.names);
   codes = state_of no_category b.codes;
-  groups = reverse (vec_items b.kinds);
-  words = vec_len b.words.parameters + vec_len b.words.bodies;
+  groups = reverse (vec_items b.kinds.held);
+  words = vec_len b.words.parameters.held + vec_len b.words.bodies.held;
 }

@@ -13,13 +13,13 @@ use Rattle.book.specs.Entried.{table_of, count}
 
 module _ {V : Type 0} where
   abbrev pub state_of : Entry V → Grouped V → State V
-  state_of d g = record { table = table_of d g.entries; groups = groups_of (reverse (vec_items g.bases)) (vec_items g.saved) }
+  state_of d g = record { table = table_of d g.entries; groups = groups_of (reverse (vec_items g.bases.held)) (vec_items g.saved.held) }
 
   abbrev pub size : Grouped V → ℕ
   size g = count g.entries
 
   abbrev pub depth : Grouped V → ℕ
-  depth g = vec_len g.bases
+  depth g = vec_len g.bases.held
 
   abbrev pub Becomes : Grouped V → Grouped V → (State V → State V) → Type 0
   Becomes g h f = (d : Entry V) → state_of d h ≡ f (state_of d g)

@@ -12,6 +12,7 @@ use crate::grouping::GROUPS;
 use crate::meaning::{Held, Plain};
 use crate::wording::WORDS;
 use crate::words::Words;
+use buffers::Buffer;
 use std::alloc::{AllocError, Global};
 use tokens::{BodyWord, Category, GroupKind, ParameterWord, Scope};
 
@@ -25,7 +26,7 @@ impl Book {
     {
         let names = Grouped::new(heap, first_meanings(heap)?)?;
         let codes = Grouped::new(heap, first_categories(heap)?)?;
-        let kinds = Vec::with_capacity(heap, GROUPS)?;
+        let kinds = Buffer::new(heap)?;
         let words = Words::new(heap)?;
         Ok(Book {
             names,
@@ -40,19 +41,19 @@ impl Book {
         ensures answer { result ≡ open_answer (book_of self.old) }
         ensures state { book_of self.new ≡ after_open kind (book_of self.old) }
     {
-        if self.kinds.len() >= GROUPS {
+        if self.kinds.held.len() >= GROUPS {
             return Err(BookFault::GroupsFull);
         }
         self.names.open();
         self.codes.open();
-        self.kinds.push_reserved(kind);
+        self.kinds.held.push_reserved(kind);
         Ok(())
     }
 
     // Whether the innermost group is of a kind.
     fn is_innermost(&self, kind: GroupKind) -> bool
         ensures answer { result ≡ is_innermost kind (book_of self.now).groups }
-        ensures inside { result ≡ true → 0 < vec_len self.now.kinds }
+        ensures inside { result ≡ true → 0 < vec_len self.now.kinds.held }
     {
         self.innermost() == Some(kind)
     }
@@ -67,7 +68,7 @@ impl Book {
         }
         self.names.close();
         self.codes.close();
-        let _ = self.kinds.pop();
+        let _ = self.kinds.held.pop();
         Ok(())
     }
 

@@ -5,7 +5,7 @@ use std::alloc::{AllocError, Global};
 use tables::{Entry, Saved};
 
 // What each key from 0 on holds: its value, and its level, the depth of the group that it was assigned in locally, or 0.
-// All values lie by themselves, since the categories of all codes are lent as one slice.
+// All values lie by themselves, since the categories of all codes are lent as one array.
 #[derive(Drop)]
 pub(crate) struct Entries<V: Copy> {
     pub(crate) values: Vec<V>,

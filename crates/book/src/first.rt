@@ -11,23 +11,18 @@ use tokens::Category;
 // The numbers that a name can have.
 const NAMES: usize = 65536;
 
-// The codes.
-const CODES: usize = 256;
-
 // What a name means at first.
 fn first_meaning(name: u16) -> Held
     ensures { result ≡ Held.Plain (plain_first (primitive_of name)) }
 {
-    match Primitive::try_from(name) {
-        Ok(primitive) => Held::Plain(Plain::Primitive(primitive)),
-        Err(_) => Held::Plain(Plain::Undefined),
-    }
+    Held::Plain(Primitive::try_from(name).map_or(Plain::Undefined, Plain::Primitive))
 }
 
 // What all names mean at first.
 pub(crate) fn first_meanings(heap: Global) -> Result<Vec<Held>, AllocError>
     ensures { IfOk result (λ v. v.items ≡ map (λ k. Held.Plain (plain_first (primitive_of k))) (range_with_len 0 65536)) }
 {
+    // `0..=u16::MAX` was tried: its proof does not close, as the library's lemmas are on ranges without their end.
     (0..NAMES)
         .map(|name| first_meaning(name as u16))
         .collect(heap)
@@ -37,7 +32,5 @@ pub(crate) fn first_meanings(heap: Global) -> Result<Vec<Held>, AllocError>
 pub(crate) fn first_categories(heap: Global) -> Result<Vec<Category>, AllocError>
     ensures { IfOk result (λ v. v.items ≡ first_categories) }
 {
-    (0..CODES)
-        .map(|code| Category::first(code as u8))
-        .collect(heap)
+    Category::first_table().to_vec(heap)
 }

@@ -1,8 +1,10 @@
-ghost use Rattle.std.specs.Prelude.{◌≡◌, ℕ, ◌≤◌, true, reverse, vec_len, vec_capacity};
+ghost use Rattle.std.specs.Prelude.{◌≡◌, ℕ, ◌≤◌, true, reverse, vec_len};
 ghost use Rattle.book.specs.Bases.{bounded, keys_below};
 ghost use Rattle.book.specs.Entried.{count};
 
 use crate::entries::Entries;
+use crate::grouping::{GROUPS, RECORDS};
+use buffers::Buffer;
 use tables::Saved;
 
 // One use of the grouped table: what each key holds, and the save records of all open groups, oldest first; a base tells
@@ -10,10 +12,10 @@ use tables::Saved;
 #[derive(Drop)]
 pub(crate) struct Grouped<V: Copy> {
     pub(crate) entries: Entries<V>,
-    pub(crate) saved: Vec<Saved<V>>,
-    pub(crate) bases: Vec<usize>,
-    ghost keyed: { keys_below (count entries) saved.items ≡ true },
-    ghost based: { bounded (vec_len saved) (reverse bases.items) ≡ true },
-    ghost records: { (vec_len saved ≤ 2048) × (2048 ≤ vec_capacity saved) },
-    ghost groups: { (vec_len bases ≤ 250) × (250 ≤ vec_capacity bases) },
+    pub(crate) saved: Buffer<Saved<V>, RECORDS>,
+    pub(crate) bases: Buffer<usize, GROUPS>,
+    ghost keyed: { keys_below (count entries) saved.held.items ≡ true },
+    ghost based: { bounded (vec_len saved.held) (reverse bases.held.items) ≡ true },
+    ghost records: { vec_len saved.held ≤ 2048 },
+    ghost groups: { vec_len bases.held ≤ 250 },
 }

@@ -8,6 +8,7 @@ ghost use Rattle.book.specs.Tabled.{state_of, size, depth, Becomes, IsAsWide};
 use crate::entries::Entries;
 use crate::fault::BookFault;
 use crate::grouped::Grouped;
+use buffers::Buffer;
 use std::alloc::{AllocError, Global};
 use tables::{Entry, Saved};
 use tokens::Scope;
@@ -39,8 +40,8 @@ impl<V: Copy> Grouped<V> {
     {
         Ok(Grouped {
             entries: Entries::new(heap, values)?,
-            saved: Vec::with_capacity(heap, RECORDS)?,
-            bases: Vec::with_capacity(heap, GROUPS)?,
+            saved: Buffer::new(heap)?,
+            bases: Buffer::new(heap)?,
         })
     }
 
@@ -64,7 +65,7 @@ impl<V: Copy> Grouped<V> {
     pub(crate) fn records(&self) -> usize
         ensures { (d : Entry V) → result ≡ records (state_of d self.now) }
     {
-        self.saved.len()
+        self.saved.held.len()
     }
 
     // In a group, unless the present value was assigned locally in that same group.
@@ -73,7 +74,7 @@ impl<V: Copy> Grouped<V> {
         ensures answer { (d : Entry V) → result ≡ needs_record (state_of d self.now) key }
         ensures inside { result ≡ true → 0 < depth self.now }
     {
-        let depth = self.bases.len();
+        let depth = self.bases.held.len();
         depth > 0 && self.entries.get(key).level as usize != depth
     }
 
@@ -81,12 +82,12 @@ impl<V: Copy> Grouped<V> {
     fn save(&mut self, key: usize)
         requires within { key < size self.old }
         requires inside { 0 < depth self.old }
-        requires room { vec_len self.old.saved < 2048 }
+        requires room { vec_len self.old.saved.held < 2048 }
         ensures state { Becomes self.old self.new (λ s. record { table = s.table; groups = recorded (record { key = key; entry = s.table key }) s.groups }) }
         ensures sizes { IsAsWide self.old self.new }
     {
         let entry = self.entries.get(key);
-        self.saved.push_reserved(Saved { key, entry });
+        self.saved.held.push_reserved(Saved { key, entry });
     }
 
     // Assigns for the innermost group, with a record if one is needed; refused if none is left.
@@ -96,9 +97,9 @@ impl<V: Copy> Grouped<V> {
         ensures state { Becomes self.old self.new (λ s. tried 2048 s (assign_locally key value)) }
         ensures sizes { IsAsWide self.old self.new }
     {
-        let level = self.bases.len() as u8;
+        let level = self.bases.held.len() as u8;
         if self.needs_record(key) {
-            if self.saved.len() >= RECORDS {
+            if self.saved.held.len() >= RECORDS {
                 return Err(BookFault::RecordsFull);
             }
             self.save(key);
@@ -129,7 +130,8 @@ impl<V: Copy> Grouped<V> {
         ensures state { Becomes self.old self.new opened }
         ensures sizes { (size self.new ≡ size self.old) × (depth self.new ≡ depth self.old + 1) }
     {
-        self.bases.push_reserved(self.saved.len());
+        let base = self.saved.held.len();
+        self.bases.held.push_reserved(base);
     }
 
     // Closes the innermost group, if one is open: undoes its records.
@@ -137,8 +139,8 @@ impl<V: Copy> Grouped<V> {
         ensures state { Becomes self.old self.new closed }
         ensures sizes { (size self.new ≡ size self.old) × (depth self.new ≡ depth self.old - 1) }
     {
-        if let Some(base) = self.bases.pop() {
-            undo(&mut self.entries, &mut self.saved, base);
+        if let Some(base) = self.bases.held.pop() {
+            undo(&mut self.entries, &mut self.saved.held, base);
         }
     }
 }

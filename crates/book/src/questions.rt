@@ -24,25 +24,25 @@ impl Book {
     }
 
     // The categories of all codes, from code 0 on.
-    pub fn categories(&self) -> &[Category]
+    pub fn categories(&self) -> &[Category; 256]
         ensures count { length result.now ≡ 256 }
         ensures each { (k : ℕ) (d : Category) → k < 256 → slice_index_or result.now k d ≡ ((book_of self.now).codes.table k).value }
     {
-        self.codes.entries.values.as_slice()
+        self.codes.entries.values.first_chunk().unwrap()
     }
 
     // How many groups are open.
     pub fn depth(&self) -> usize
         ensures { result ≡ length (book_of self.now).groups }
     {
-        self.kinds.len()
+        self.kinds.held.len()
     }
 
     // The kind of the innermost group.
     pub fn innermost(&self) -> Option<GroupKind>
         ensures { result ≡ innermost (book_of self.now).groups }
     {
-        self.kinds.last().copied()
+        self.kinds.held.last().copied()
     }
 
     // How many save records names have taken.

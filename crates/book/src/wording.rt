@@ -3,6 +3,7 @@ ghost use Rattle.book.specs.Meanings.{part, means_of, shown, within};
 
 use crate::meaning::{Definition, Held, Macro, Meaning, Plain, Span};
 use crate::words::Words;
+use buffers::Buffer;
 use std::alloc::{AllocError, Global};
 use tokens::{BodyWord, ParameterWord};
 
@@ -20,31 +21,31 @@ fn part<T>(words: &[T], span: Span) -> &[T]
 
 impl Words {
     pub(crate) fn new(heap: Global) -> Result<Words, AllocError>
-        ensures { IfOk result (λ w. (w.parameters.items ≡ []) × (w.bodies.items ≡ [])) }
+        ensures { IfOk result (λ w. (w.parameters.held.items ≡ []) × (w.bodies.held.items ≡ [])) }
     {
-        let parameters = Vec::with_capacity(heap, WORDS)?;
-        let bodies = Vec::with_capacity(heap, WORDS)?;
+        let parameters = Buffer::new(heap)?;
+        let bodies = Buffer::new(heap)?;
         Ok(Words { parameters, bodies })
     }
 
     // How many words are used.
     pub(crate) fn used(&self) -> usize
-        ensures { result ≡ vec_len self.now.parameters + vec_len self.now.bodies }
+        ensures { result ≡ vec_len self.now.parameters.held + vec_len self.now.bodies.held }
     {
-        self.parameters.len() + self.bodies.len()
+        self.parameters.held.len() + self.bodies.held.len()
     }
 
     // Where the words of the next definition will lie.
     pub(crate) fn next(&self, long: bool, parameters: usize, body: usize) -> Macro
-        requires { vec_len self.now.parameters + vec_len self.now.bodies + (parameters + body) ≤ 16384 }
-        ensures { result ≡ record { long = long; parameters = record { start = vec_len self.now.parameters; count = parameters }; body = record { start = vec_len self.now.bodies; count = body } } }
+        requires { vec_len self.now.parameters.held + vec_len self.now.bodies.held + (parameters + body) ≤ 16384 }
+        ensures { result ≡ record { long = long; parameters = record { start = vec_len self.now.parameters.held; count = parameters }; body = record { start = vec_len self.now.bodies.held; count = body } } }
     {
         let parameters = Span {
-            start: self.parameters.len() as u16,
+            start: self.parameters.held.len() as u16,
             count: parameters as u16,
         };
         let body = Span {
-            start: self.bodies.len() as u16,
+            start: self.bodies.held.len() as u16,
             count: body as u16,
         };
         Macro {
@@ -56,18 +57,18 @@ impl Words {
 
     // Adds the words of a definition. Their memory was taken when the book was made, so neither is refused.
     pub(crate) fn add(&mut self, parameters: &[ParameterWord], body: &[BodyWord])
-        requires { vec_len self.old.parameters + vec_len self.old.bodies + (length parameters.now + length body.now) ≤ 16384 }
-        ensures parameters { self.new.parameters.items ≡ self.old.parameters.items ++ parameters.now }
-        ensures bodies { self.new.bodies.items ≡ self.old.bodies.items ++ body.now }
+        requires { vec_len self.old.parameters.held + vec_len self.old.bodies.held + (length parameters.now + length body.now) ≤ 16384 }
+        ensures parameters { self.new.parameters.held.items ≡ self.old.parameters.held.items ++ parameters.now }
+        ensures bodies { self.new.bodies.held.items ≡ self.old.bodies.held.items ++ body.now }
     {
-        let _ = self.parameters.extend_from_slice(parameters);
-        let _ = self.bodies.extend_from_slice(body);
+        let _ = self.parameters.held.extend_from_slice(parameters);
+        let _ = self.bodies.held.extend_from_slice(body);
     }
 
     // What a held meaning says.
     pub(crate) fn meaning(&self, held: Held) -> Meaning<'_>
-        requires { within (vec_len self.now.parameters) (vec_len self.now.bodies) held ≡ true }
-        ensures { shown result ≡ means_of self.now.parameters.items self.now.bodies.items held }
+        requires { within (vec_len self.now.parameters.held) (vec_len self.now.bodies.held) held ≡ true }
+        ensures { shown result ≡ means_of self.now.parameters.held.items self.now.bodies.held.items held }
     {
         match held {
             Held::Plain(Plain::Undefined) => Meaning::Undefined,
@@ -81,8 +82,8 @@ impl Words {
                 },
             ) => Meaning::Macro(Definition {
                 long,
-                parameters: part(self.parameters.as_slice(), parameters),
-                body: part(self.bodies.as_slice(), body),
+                parameters: part(self.parameters.held.as_slice(), parameters),
+                body: part(self.bodies.held.as_slice(), body),
             }),
         }
     }

@@ -6,14 +6,14 @@ ghost use Rattle.tables.specs.Laws.{Survives, LeavesNoTrace};
 
 // What a key holds: its value, and the depth of the group that it was assigned in locally.
 // The level is 0 for a first value, and for what was assigned globally or outside all groups.
-#[derive(Clone, Copy)]
+#[derive(Clone, Copy, Debug, PartialEq, Eq)]
 pub struct Entry<V: Copy> {
     pub value: V,
     pub level: u8,
 }
 
 // A save record: what a key held before a local assignment.
-#[derive(Clone, Copy)]
+#[derive(Clone, Copy, Debug, PartialEq, Eq)]
 pub struct Saved<V: Copy> {
     pub key: usize,
     pub entry: Entry<V>,

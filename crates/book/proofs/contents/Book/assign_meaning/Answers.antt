@@ -14,11 +14,10 @@ pub invariant_of-self : goal.invariant_of-self
 invariant_of-self c =
     let b = c.args.self.now in
     let a = c.assign.ensures in
-    let p = within (vec_len b.words.parameters) (vec_len b.words.bodies) in
+    let p = within (vec_len b.words.parameters.held) (vec_len b.words.bodies.held) in
     let held = Plain c.args.meaning in record {
       sized = (a.sizes.0 ∙ b.sized.0, b.sized.1);
       level = (a.sizes.1 ∙ b.level.0, b.level.1);
-      room = b.room;
       lying = subst (Holds p) (sym (a.state no_meaning)) (holds_tried p 2048 (state_of no_meaning b.names) c.args.scope c.args.name held b.lying refl);
     }
 

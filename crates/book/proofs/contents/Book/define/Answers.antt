@@ -26,12 +26,11 @@ pub invariant_of-self : goal.invariant_of-self
 invariant_of-self c =
     let b = c.args.self.now in
     let a = c.assign.ensures in
-    let p = within (vec_len b.words.parameters) (vec_len b.words.bodies) in
+    let p = within (vec_len b.words.parameters.held) (vec_len b.words.bodies.held) in
     let s = state_of no_meaning b.names in
     let r = (was_refused _ _ _ (c.in_err-assign.ensures.answer no_meaning)).0 in record {
       sized = (a.sizes.0 ∙ b.sized.0, b.sized.1);
       level = (a.sizes.1 ∙ b.level.0, b.level.1);
-      room = b.room;
       lying = subst (Holds p) (sym (unchanged s (state_of no_meaning c.assign.new.self) _ (a.state no_meaning) r)) b.lying;
     }
 
@@ -65,17 +64,16 @@ invariant_of-self-2 c =
     let bs = c.args.body.now in
     let w = b.words in
     let u = c.add.new.self in
-    let nl : vec_len u.parameters ≡ vec_len w.parameters + length ps =
-    u.parameters.ok.0 ∙ ap length c.add.ensures.parameters ∙ length-append (vec_items w.parameters) ps ∙ ap (λ (n : ℕ). n + length ps) (sym w.parameters.ok.0) in
-    let ml : vec_len u.bodies ≡ vec_len w.bodies + length bs =
-    u.bodies.ok.0 ∙ ap length c.add.ensures.bodies ∙ length-append (vec_items w.bodies) bs ∙ ap (λ (n : ℕ). n + length bs) (sym w.bodies.ok.0) in
+    let nl : vec_len u.parameters.held ≡ vec_len w.parameters.held + length ps =
+    u.parameters.held.ok.0 ∙ ap length c.add.ensures.parameters ∙ length-append (vec_items w.parameters.held) ps ∙ ap (λ (n : ℕ). n + length ps) (sym w.parameters.held.ok.0) in
+    let ml : vec_len u.bodies.held ≡ vec_len w.bodies.held + length bs =
+    u.bodies.held.ok.0 ∙ ap length c.add.ensures.bodies ∙ length-append (vec_items w.bodies.held) bs ∙ ap (λ (n : ℕ). n + length bs) (sym w.bodies.held.ok.0) in
     let s = state_of no_meaning b.names in
     let e = a.state no_meaning ∙ ap (λ m. tried 2048 s (operation c.args.scope c.args.name (Macro m))) c.next-place.ensures in record {
       sized = (a.sizes.0 ∙ b.sized.0, b.sized.1);
       level = (a.sizes.1 ∙ b.level.0, b.level.1);
-      room = b.room;
-      lying = defined_within (vec_items w.parameters) ps (vec_items w.bodies) bs (vec_len w.parameters) (vec_len w.bodies) w.parameters.ok.0 w.bodies.ok.0
-          (vec_len u.parameters) (vec_len u.bodies) nl ml s (state_of no_meaning c.assign.new.self) c.args.scope c.args.name c.args.long b.lying e;
+      lying = defined_within (vec_items w.parameters.held) ps (vec_items w.bodies.held) bs (vec_len w.parameters.held) (vec_len w.bodies.held) w.parameters.held.ok.0 w.bodies.held.ok.0
+          (vec_len u.parameters.held) (vec_len u.bodies.held) nl ml s (state_of no_meaning c.assign.new.self) c.args.scope c.args.name c.args.long b.lying e;
     }
 
 pub returns : goal.returns
@@ -87,16 +85,16 @@ returns c =
     let n = length ps + length bs in
     let w = b.words in
     let u = c.add.new.self in
-    let nl = u.parameters.ok.0 ∙ ap length c.add.ensures.parameters ∙ length-append (vec_items w.parameters) ps in
-    let ml = u.bodies.ok.0 ∙ ap length c.add.ensures.bodies ∙ length-append (vec_items w.bodies) bs in
-    let count : vec_len u.parameters + vec_len u.bodies ≡ (book_of b).words + n = omega (arith, w.parameters.ok.0, w.bodies.ok.0) in
+    let nl = u.parameters.held.ok.0 ∙ ap length c.add.ensures.parameters ∙ length-append (vec_items w.parameters.held) ps in
+    let ml = u.bodies.held.ok.0 ∙ ap length c.add.ensures.bodies ∙ length-append (vec_items w.bodies.held) bs in
+    let count : vec_len u.parameters.held + vec_len u.bodies.held ≡ (book_of b).words + n = omega (arith, w.parameters.held.ok.0, w.bodies.held.ok.0) in
     let s = state_of no_meaning b.names in
     let o : Op Means = operation c.args.scope c.args.name (macro c.args.long ps bs) in
     let e = a.state no_meaning ∙ ap (λ m. tried 2048 s (operation c.args.scope c.args.name (Macro m))) c.next-place.ensures in
     let r : refused 2048 (book_of b).names o ≡ false = refused_read (read w) 2048 s c.args.scope c.args.name (Macro c.next-place.result) _ ∙ was_done _ _ (c.in_ok-assign.ensures.answer no_meaning) in
     let names =
-    defined (vec_items w.parameters) ps (vec_items w.bodies) bs (vec_len w.parameters) (vec_len w.bodies) w.parameters.ok.0 w.bodies.ok.0
-    (vec_items u.parameters) (vec_items u.bodies) c.add.ensures.parameters c.add.ensures.bodies s (state_of no_meaning c.assign.new.self) c.args.scope c.args.name c.args.long b.lying e
+    defined (vec_items w.parameters.held) ps (vec_items w.bodies.held) bs (vec_len w.parameters.held) (vec_len w.bodies.held) w.parameters.held.ok.0 w.bodies.held.ok.0
+    (vec_items u.parameters.held) (vec_items u.bodies.held) c.add.ensures.parameters c.add.ensures.bodies s (state_of no_meaning c.assign.new.self) c.args.scope c.args.name c.args.long b.lying e
     ∙ cond-false (refused 2048 (book_of b).names o) (book_of b).names (step (book_of b).names o) r in
     let d : if_room n (book_of b) (record_answer (book_of b).names o) ≡ record_answer (book_of b).names o = past_checks (ltb 2048 n) (ltb 16384 ((book_of b).words + n)) DefinitionTooLong WordsFull (record_answer (book_of b).names o) c.in_ok-room_for.ensures.answer in
     let q = if_done (refused 2048 (book_of b).names o) RecordsFull (book_of b) (defining n o (book_of b)) r in

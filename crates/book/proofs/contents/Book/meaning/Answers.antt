@@ -7,7 +7,7 @@ use Rattle.book.proofs.contents.Book.meaning.Goals as goal
 pub meaning-requires : goal.meaning-requires
 meaning-requires c =
     let b = c.args.self.now in
-    ap (within (vec_len b.words.parameters) (vec_len b.words.bodies)) (c.value.ensures no_meaning) ∙ b.lying.0 c.args.name
+    ap (within (vec_len b.words.parameters.held) (vec_len b.words.bodies.held)) (c.value.ensures no_meaning) ∙ b.lying.0 c.args.name
 
 pub returns : goal.returns
 returns c = c.meaning.ensures ∙ ap (read c.args.self.now.words) (c.value.ensures no_meaning)

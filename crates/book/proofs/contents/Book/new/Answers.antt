@@ -35,11 +35,12 @@ invariant_of-result c =
     let firsts : (j : ℕ) → get_or (vec_items v) j (Plain Undefined) ≡ first_held j =
     filled_all first_held 65536 (vec_items v) f (Plain Undefined) (λ j l. ap (λ o. Plain (plain_first o)) (no_primitive j l)) in
     let w = c.in_ok-words.words in
-    let p = within (vec_len w.parameters) (vec_len w.bodies) in
+    let p = within (vec_len w.parameters.held) (vec_len w.bodies.held) in
+    let kinds = c.in_ok-kinds.kinds.held in
+    let none : vec_len kinds ≡ 0 = kinds.ok.0 ∙ ap length k in
     let lying : Holds p (state_of no_meaning c.in_ok-names.names) = subst (Holds p) (sym (n.0 no_meaning refl)) (holds_new p (λ j. get_or (vec_items v) j (Plain Undefined)) (λ j. ap p (firsts j))) in record {
       sized = (n.1 ∙ v.ok.0 ∙ filled_length first_held 65536 (vec_items v) f, m.1 ∙ u.ok.0 ∙ filled_length first_category 256 (vec_items u) h);
-      level = (n.2 ∙ sym k.len, m.2 ∙ sym k.len);
-      room = k.capacity;
+      level = (n.2 ∙ sym none, m.2 ∙ sym none);
       lying = lying;
     }
 
@@ -60,6 +61,6 @@ returns c =
     ap (read_by (read w)) (n.0 no_meaning refl) ∙ ap (λ (g : ℕ → Held). read_by (read w) (new g)) (fun_ext firsts) in
     let codes : state_of no_category c.in_ok-codes.codes ≡ new first_category =
     m.0 no_category refl ∙ ap (λ (g : ℕ → Category). new g) (fun_ext (filled_all first_category 256 (vec_items u) h Other no_category_lem)) in
-    let ps : vec_len w.parameters ≡ 0 = w.parameters.ok.0 ∙ ap length e.0 in
-    let bs : vec_len w.bodies ≡ 0 = w.bodies.ok.0 ∙ ap length e.1 in
-    λ i. record { names = names i; codes = codes i; groups = reverse (k.items i); words = ps i + bs i }
+    let ps : vec_len w.parameters.held ≡ 0 = w.parameters.held.ok.0 ∙ ap length e.0 in
+    let bs : vec_len w.bodies.held ≡ 0 = w.bodies.held.ok.0 ∙ ap length e.1 in
+    λ i. record { names = names i; codes = codes i; groups = reverse (k i); words = ps i + bs i }

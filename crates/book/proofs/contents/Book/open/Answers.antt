@@ -13,8 +13,8 @@ use Rattle.book.proofs.contents.Book.open.Goals as goal
 pub returns-then-len-ge-GROUPS : goal.returns-then-len-ge-GROUPS
 returns-then-len-ge-GROUPS c =
     let b = c.args.self.now in
-    let n = length-reverse (vec_items b.kinds) in
-    let h : 250 ≤ length (reverse (vec_items b.kinds)) = omega (arith, b.kinds.ok.0) in
+    let n = length-reverse (vec_items b.kinds.held) in
+    let h : 250 ≤ length (reverse (vec_items b.kinds.held)) = omega (arith, b.kinds.held.ok.0) in
     let p = if_refused (leb 250 (length (book_of b).groups)) GroupsFull (book_of b) (opening c.args.kind (book_of b)) (le-leb 250 _ h) in
     record { answer = p.0; state = p.1 }
 
@@ -25,20 +25,24 @@ invariant_of-self c =
     let u = c.open-2.ensures in
     let n = b.level.0 in
     let m = b.level.1 in
-    let p = within (vec_len b.words.parameters) (vec_len b.words.bodies) in record {
-      sized = (o.sizes.0 ∙ b.sized.0, u.sizes.0 ∙ b.sized.1);
-      level = (omega (arith, o.sizes.1, c.push_reserved.ensures.len), omega (arith, u.sizes.1, c.push_reserved.ensures.len));
-      room = omega (arith, c.push_reserved.ensures.capacity, b.room);
-      lying = subst (Holds p) (sym (o.state no_meaning)) b.lying;
-    }
+    let p = within (vec_len b.words.parameters.held) (vec_len b.words.bodies.held) in (
+      (omega (arith, b.kinds.room, c.push_reserved.ensures.capacity), tt),
+      (
+        (o.sizes.0 ∙ b.sized.0, u.sizes.0 ∙ b.sized.1),
+        (
+          (omega (arith, o.sizes.1, c.push_reserved.ensures.len), omega (arith, u.sizes.1, c.push_reserved.ensures.len)),
+          (subst (Holds p) (sym (o.state no_meaning)) b.lying, tt),
+        ),
+      ),
+    )
 
 pub returns : goal.returns
 returns c =
     let b = c.args.self.now in
-    let n = length-reverse (vec_items b.kinds) in
-    let h : length (reverse (vec_items b.kinds)) < 250 = omega (arith, b.kinds.ok.0, c.len.ensures, c.if-len-ge-GROUPS.false) in
+    let n = length-reverse (vec_items b.kinds.held) in
+    let h : length (reverse (vec_items b.kinds.held)) < 250 = omega (arith, b.kinds.held.ok.0, c.len.ensures, c.if-len-ge-GROUPS.false) in
     let p = if_done (leb 250 (length (book_of b).groups)) GroupsFull (book_of b) (opening c.args.kind (book_of b)) (lt-leb 250 _ h) in
-    let ks = ap reverse c.push_reserved.ensures.items ∙ kinds_pushed (vec_items b.kinds) c.args.kind in
+    let ks = ap reverse c.push_reserved.ensures.items ∙ kinds_pushed (vec_items b.kinds.held) c.args.kind in
     record {
       answer = p.0;
       state = (λ i. record {

@@ -14,24 +14,24 @@ based n b xs ys e h = bounded_head n b (reverse ys) (subst (λ (bs : List ℕ). 
 pub undo-requires : goal.undo-requires
 undo-requires g c =
     let t = c.args.self.now in
-    let e = bases_popped (vec_items t.bases) (vec_items c.pop.new.self) c.in-Some.base c.in-Some.ensures.items in
-    record { keyed = t.keyed; within = (based (vec_len t.saved) c.in-Some.base (vec_items t.bases) (vec_items c.pop.new.self) e t.based).0 }
+    let e = bases_popped (vec_items t.bases.held) (vec_items c.pop.new.self) c.in-Some.base c.in-Some.ensures.items in
+    record { keyed = t.keyed; within = (based (vec_len t.saved.held) c.in-Some.base (vec_items t.bases.held) (vec_items c.pop.new.self) e t.based).0 }
 
-pub invariant_of-self : goal.invariant_of-self
-invariant_of-self g c =
+pub invariant_of-self-in-Some-2 : goal.invariant_of-self-in-Some-2
+invariant_of-self-in-Some-2 g c =
     let t = c.args.self.now in
     let b = c.in-Some.base in
     let u = c.undo.ensures in
-    let e = bases_popped (vec_items t.bases) (vec_items c.pop.new.self) b c.in-Some.ensures.items in
-    let h = based (vec_len t.saved) b (vec_items t.bases) (vec_items c.pop.new.self) e t.based in
-    let l : b ≤ vec_len t.saved = h.0 in
-    let k : b ≤ length (vec_items t.saved) = omega (arith, t.saved.ok.0) in
-    let n : vec_len c.undo.new.saved ≡ b = c.undo.new.saved.ok.0 ∙ ap length u.records ∙ length-take-le b (vec_items t.saved) k in record {
+    let e = bases_popped (vec_items t.bases.held) (vec_items c.pop.new.self) b c.in-Some.ensures.items in
+    let h = based (vec_len t.saved.held) b (vec_items t.bases.held) (vec_items c.pop.new.self) e t.based in
+    let l : b ≤ vec_len t.saved.held = h.0 in
+    let k : b ≤ length (vec_items t.saved.held) = omega (arith, t.saved.held.ok.0) in
+    let n : vec_len c.undo.new.saved ≡ b = c.undo.new.saved.ok.0 ∙ ap length u.records ∙ length-take-le b (vec_items t.saved.held) k in record {
       keyed = subst (λ (m : ℕ). keys_below m (vec_items c.undo.new.saved) ≡ true) (sym u.sizes.0)
-          (subst (λ (ss : List (Saved _)). keys_below (count t.entries) ss ≡ true) (sym u.records) (keys_take (count t.entries) b (vec_items t.saved) t.keyed));
+          (subst (λ (ss : List (Saved _)). keys_below (count t.entries) ss ≡ true) (sym u.records) (keys_take (count t.entries) b (vec_items t.saved.held) t.keyed));
       based = subst (λ (m : ℕ). bounded m (reverse (vec_items c.pop.new.self)) ≡ true) (sym n) h.1;
-      records = (omega (arith, t.records.0), omega (arith, t.records.1, u.sizes.1));
-      groups = (omega (arith, t.groups.0, c.in-Some.ensures.len), omega (arith, t.groups.1, c.in-Some.ensures.capacity));
+      records = omega (arith, t.records);
+      groups = omega (arith, t.groups, c.in-Some.ensures.len);
     }
 
 pub returns-in-Some : goal.returns-in-Some
@@ -39,8 +39,8 @@ returns-in-Some g c =
     let t = c.args.self.now in
     let b = c.in-Some.base in
     let u = c.undo.ensures in
-    let e = bases_popped (vec_items t.bases) (vec_items c.pop.new.self) b c.in-Some.ensures.items in
-    let f = ap (λ bs. groups_of bs (vec_items t.saved)) e in
+    let e = bases_popped (vec_items t.bases.held) (vec_items c.pop.new.self) b c.in-Some.ensures.items in
+    let f = ap (λ bs. groups_of bs (vec_items t.saved.held)) e in
     record {
       state = λ d.
           (λ i. record { table = u.table d i; groups = groups_of (reverse (vec_items c.pop.new.self)) (u.records i) })
