@@ -23,9 +23,10 @@ impl Words {
     pub(crate) fn new(heap: Global) -> Result<Words, AllocError>
         ensures { IfOk result (λ w. (w.parameters.held.items ≡ []) × (w.bodies.held.items ≡ [])) }
     {
-        let parameters = Buffer::new(heap)?;
-        let bodies = Buffer::new(heap)?;
-        Ok(Words { parameters, bodies })
+        Ok(Words {
+            parameters: Buffer::new(heap)?,
+            bodies: Buffer::new(heap)?,
+        })
     }
 
     // How many words are used.
