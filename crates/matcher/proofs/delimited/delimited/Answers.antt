@@ -24,7 +24,7 @@ Found d at m x = Marked x at m × (settled_from d (take at x) (drop at x) ≡ ta
 
 pub run-init : goal.run-init
 run-init g c =
-    let v = c.args.gathered.now.tokens in
+    let v = c.args.gathered.now.held in
     let none = none_from v c.len-start.result c.len-start.ensures in
     let long = c.args.terms.long in
     let d = delimiter_in c.args.delimiter.words.now in (
@@ -41,7 +41,7 @@ run-init g c =
 
 pub settle-requires : goal.settle-requires
 settle-requires g c =
-    let v = c.run.gathered.tokens in
+    let v = c.run.gathered.held in
     let w = c.push_reserved.new.self in
     let start = c.len-start.result in
     let u = drop start (vec_items v) in
@@ -62,12 +62,12 @@ returns-in_err-token g c =
     record {
       goes = λ q u. rw (p.1, p.2) (fails _ _ _ _ _ (i.0 q u) (unread _ _ _ _ _ (in_run q _ _) _ _ (listed c.needed.new.names) c.needed.new.source c.in_err-token.field-0.0 t.takes t.reads));
       fits = rw p.1 tt;
-      kept = ap (λ (z : ℕ). take z (vec_items c.run.gathered.tokens)) (sym c.len-start.ensures) ∙ i.8;
+      kept = ap (λ (z : ℕ). take z (vec_items c.run.gathered.held)) (sym c.len-start.ensures) ∙ i.8;
     }
 
 pub returns-in_default : goal.returns-in_default
 returns-in_default g c =
-    let v = c.run.gathered.tokens in
+    let v = c.run.gathered.held in
     let w = c.push_reserved.new.self in
     let start = c.len-start.result in
     let u = drop start (vec_items v) in
@@ -90,7 +90,7 @@ returns-in_default g c =
 pub returns-in-Some-hindrance : goal.returns-in-Some-hindrance
 unfolding Found
 returns-in-Some-hindrance g c =
-    let v = c.run.gathered.tokens in
+    let v = c.run.gathered.held in
     let w = c.push_reserved.new.self in
     let start = c.len-start.result in
     let u = drop start (vec_items v) in
@@ -117,7 +117,7 @@ returns-in-Some-hindrance g c =
 pub run-preserved : goal.run-preserved
 unfolding Found
 run-preserved g c =
-    let v = c.run.gathered.tokens in
+    let v = c.run.gathered.held in
     let w = c.push_reserved.new.self in
     let start = c.len-start.result in
     let u = drop start (vec_items v) in
@@ -152,7 +152,7 @@ run-preserved g c =
 pub returns-then-len-start : goal.returns-then-len-start
 unfolding Found
 returns-then-len-start g c =
-    let v = c.run.gathered.tokens in
+    let v = c.run.gathered.held in
     let w = c.push_reserved.new.self in
     let start = c.len-start.result in
     let u = drop start (vec_items v) in
@@ -173,7 +173,7 @@ returns-then-len-start g c =
     let ok = unhindered long m.par n free in
     let len : length x ≡ vec_len w - start = long_from w start in
     let all : eqb (length x) (m.at + length c.args.delimiter.words.now) ≡ true = eq-eqb (length x) (m.at + length c.args.delimiter.words.now) (omega (arith, len, c.if-len-start.true, c.len.ensures)) in
-    let cut : take m.at x ≡ drop (vec_len c.args.gathered.now.tokens) (vec_items z) = sym (drop-take start m.at (vec_items w)) ∙ ap (drop start) (sym c.truncate.ensures.items) ∙ ap (λ (q : ℕ). drop q (vec_items z)) c.len-start.ensures in
+    let cut : take m.at x ≡ drop (vec_len c.args.gathered.now.held) (vec_items z) = sym (drop-take start m.at (vec_items w)) ∙ ap (drop start) (sym c.truncate.ensures.items) ∙ ap (λ (q : ℕ). drop q (vec_items z)) c.len-start.ensures in
     let short : start + m.at ≤ vec_len w = omega (arith, f.0.within, len, i.6, c.push_reserved.ensures.len) in
     record {
       goes = λ p o. onward _ _ _ _ long (i.0 p o) (turned _ _ _ _ long (read _ _ _ _ long (in_run p d u) _ _ (listed c.needed.new.names) c.needed.new.source t k.takes k.reads) (fed_then long d u t x e c.run.at c.run.depth h i.5 i.1 i.2 i.3 m f.0 f.1 p (length c.args.delimiter.words.now) n (sym c.args.delimiter.tokens) (omega (arith, o.0, o.1)) ∙ ap (by _) free ∙ cond-true (eqb (length x) (m.at + length c.args.delimiter.words.now)) _ _ all ∙ ap (λ (q : List Token). ended p (stripped q) m.at) cut));

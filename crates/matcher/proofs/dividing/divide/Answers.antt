@@ -12,8 +12,8 @@ use Rattle.matcher.proofs.Going.{stay, stay_at, onward, turned, fails}
 use Rattle.matcher.proofs.Wording.{fewest_short, fewest_tail, parted, next_delimiters, next_parameters}
 use Rattle.matcher.proofs.dividing.divide.Goals as goal
 
-no_arguments : (a : Arguments) → vec_len a.spans ≡ 0 → arguments_of a ≡ []
-no_arguments a e = ap (parts_of (vec_items a.gathered.tokens)) (nil_from_length (vec_items a.spans) (sym a.spans.ok.0 ∙ e))
+no_arguments : (a : Arguments) → vec_len a.spans.held ≡ 0 → arguments_of a ≡ []
+no_arguments a e = ap (parts_of (vec_items a.gathered.held)) (nil_from_length (vec_items a.spans.held) (sym a.spans.held.ok.0 ∙ e))
 
 pub returns-in_err-text_before : goal.returns-in_err-text_before
 returns-in_err-text_before g c =

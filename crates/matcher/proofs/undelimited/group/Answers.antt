@@ -14,7 +14,7 @@ use Rattle.matcher.proofs.undelimited.group.Goals as goal
 
 pub group-init : goal.group-init
 group-init g c =
-    let v = c.args.gathered.now.tokens in
+    let v = c.args.gathered.now.held in
     let none = none_from v c.len-start.result c.len-start.ensures in
     let long = c.args.terms.long in (
       (λ p u. turned _ _ _ _ long (stay _ _ _ _ long (on (in_group p [])) _ _) (ap (λ xs. on (in_group p xs)) (sym none))),
@@ -27,7 +27,7 @@ group-init g c =
 
 pub group-preserved : goal.group-preserved
 group-preserved g c =
-    let v = c.group.gathered.tokens in
+    let v = c.group.gathered.held in
     let w = c.push_reserved.new.self in
     let start = c.len-start.result in
     let inner = drop start (vec_items v) in
@@ -60,12 +60,12 @@ returns-in_err-token g c =
     record {
       goes = λ q u. rw (p.1, p.2) (fails _ _ _ _ _ (i.0 q u) (unread _ _ _ _ _ (in_group q _) _ _ (listed c.needed.new.names) c.needed.new.source c.in_err-token.field-0.0 t.takes t.reads));
       fits = rw p.1 tt;
-      kept = ap (λ (k : ℕ). take k (vec_items c.group.gathered.tokens)) (sym c.len-start.ensures) ∙ i.5;
+      kept = ap (λ (k : ℕ). take k (vec_items c.group.gathered.held)) (sym c.len-start.ensures) ∙ i.5;
     }
 
 pub returns-in_default : goal.returns-in_default
 returns-in_default g c =
-    let v = c.group.gathered.tokens in
+    let v = c.group.gathered.held in
     let start = c.len-start.result in
     let inner = drop start (vec_items v) in
     let t = c.in_ok-token.token in
@@ -74,18 +74,18 @@ returns-in_default g c =
     let k = c.in_ok-token.ensures in
     record {
       goes = λ p u.
-          let f : feed long (in_group p inner) t ≡ ended p (drop (vec_len c.args.gathered.now.tokens) (vec_items v)) (vec_len v - vec_len c.args.gathered.now.tokens + 2) =
+          let f : feed long (in_group p inner) t ≡ ended p (drop (vec_len c.args.gathered.now.held) (vec_items v)) (vec_len v - vec_len c.args.gathered.now.held + 2) =
           group_closes long p inner c.group.depth t i.1 (sym c.in_default.ensures)
           ∙ ap (λ (n : ℕ). ended p inner (n + 2)) (long_from v start)
           ∙ ap (λ (n : ℕ). ended p (drop n (vec_items v)) (vec_len v - n + 2)) c.len-start.ensures in
           onward _ _ _ _ long (i.0 p u) (turned _ _ _ _ long (read _ _ _ _ long (in_group p inner) _ _ (listed c.needed.new.names) c.needed.new.source t k.takes k.reads) f);
       fits = omega (arith, c.len-start.ensures, i.3);
-      kept = ap (λ (k : ℕ). take k (vec_items c.group.gathered.tokens)) (sym c.len-start.ensures) ∙ i.5;
+      kept = ap (λ (k : ℕ). take k (vec_items c.group.gathered.held)) (sym c.len-start.ensures) ∙ i.5;
     }
 
 pub returns-in-Some-hindrance : goal.returns-in-Some-hindrance
 returns-in-Some-hindrance g c =
-    let v = c.group.gathered.tokens in
+    let v = c.group.gathered.held in
     let start = c.len-start.result in
     let inner = drop start (vec_items v) in
     let t = c.in_ok-token.token in
@@ -102,5 +102,5 @@ returns-in-Some-hindrance g c =
           let f = group_on long p inner c.group.depth t i.1 m n to i.2 (omega (arith, u.0, u.1, long_from v start, length_push inner t, c.len.ensures)) ∙ ap (by (on (in_group p (inner ++ t ∷ [])))) bad in
           rw c.place.ensures (refuses _ _ _ _ long r (onward _ _ _ _ long (i.0 p u) (read _ _ _ _ long (in_group p inner) _ _ (listed c.needed.new.names) c.needed.new.source t k.takes k.reads)) f);
       fits = tt;
-      kept = ap (λ (k : ℕ). take k (vec_items c.group.gathered.tokens)) (sym c.len-start.ensures) ∙ i.5;
+      kept = ap (λ (k : ℕ). take k (vec_items c.group.gathered.held)) (sym c.len-start.ensures) ∙ i.5;
     }

@@ -21,7 +21,7 @@ returns-in_err-token g c =
     record {
       goes = λ p u. rw (e.1, e.2) (t.goes c.args.terms.long p);
       fits = rw e.1 tt;
-      kept = all_before c.args.gathered.now.tokens _ refl;
+      kept = all_before c.args.gathered.now.held _ refl;
     }
 
 pub returns-then-is_close : goal.returns-then-is_close
@@ -31,7 +31,7 @@ returns-then-is_close g c =
     record {
       goes = λ p u. rw c.place.ensures (refuses _ _ _ _ long Unmatched (k.goes long p) (skip_closes long p c.in_ok-token.token k.plain (sym c.if-is_close.ensures)));
       fits = tt;
-      kept = all_before c.args.gathered.now.tokens _ refl;
+      kept = all_before c.args.gathered.now.held _ refl;
     }
 
 pub returns-in-Some : goal.returns-in-Some
@@ -45,13 +45,13 @@ returns-in-Some g c =
     record {
       goes = λ p u. rw c.place-in-Some.ensures (refuses _ _ _ _ long r (k.goes long p) (skip_next long p t k.plain (sym c.if-is_close.ensures) (is_open t) refl n (counts _ _ (is_open t) c.least.result p.counted (fewest p.later) u.0 u.1 c.least.ensures.value) ∙ ap (by _) bad));
       fits = tt;
-      kept = all_before c.args.gathered.now.tokens _ refl;
+      kept = all_before c.args.gathered.now.held _ refl;
     }
 
 pub returns : goal.returns
 returns g c =
     let k = c.in_ok-token.ensures in
-    let v = c.args.gathered.now.tokens in
+    let v = c.args.gathered.now.held in
     let w = c.push_reserved.new.self in
     let long = c.args.terms.long in
     let t = c.in_ok-token.token in
@@ -71,8 +71,8 @@ pub returns-then-is_open : goal.returns-then-is_open
 returns-then-is_open g c =
     let k = c.in_ok-token.ensures in
     let m = c.in_ok-group.ensures in
-    let v = c.args.gathered.now.tokens in
-    let w = c.group.new.gathered.tokens in
+    let v = c.args.gathered.now.held in
+    let w = c.group.new.gathered.held in
     let long = c.args.terms.long in
     let t = c.in_ok-token.token in
     let n : ℕ = c.args.terms.counted + c.least.result + c.args.terms.few in

@@ -15,23 +15,23 @@ use Rattle.matcher.proofs.arguments.Arguments.keep_stripped.Goals as goal
 pub is_group-requires : goal.is_group-requires
 is_group-requires c =
     let a = c.args.self.now in
-    omega (arith, ap length (take_rest c.as_slice.result.now c.args.from ∙ ap (drop c.args.from) c.as_slice.ensures.value), long_from a.gathered.tokens c.args.from, c.requires.short)
+    omega (arith, ap length (take_rest c.as_slice.result.now c.args.from ∙ ap (drop c.args.from) c.as_slice.ensures.value), long_from a.gathered.held c.args.from, c.requires.short)
 
 pub invariant_of-self : goal.invariant_of-self
 invariant_of-self c =
     let a = c.args.self.now in
-    let n = vec_len a.gathered.tokens in
+    let n = vec_len a.gathered.held in
     let from = c.args.from in
-    let g : is_group (drop from (vec_items a.gathered.tokens)) ≡ true = sym (c.if-not-is_group.ensures ∙ ap is_group (take_rest c.as_slice.result.now from ∙ ap (drop from) c.as_slice.ensures.value)) in
-    let l : 2 ≤ n - from = omega (arith, group_long (drop from (vec_items a.gathered.tokens)) g, long_from a.gathered.tokens from) in record {
-      places = omega (arith, a.places, c.push_reserved.ensures.capacity);
-      within = subst (λ (ss : List Span). all_within n ss ≡ true) (sym c.push_reserved.ensures.items) (within_push n (vec_items a.spans) (record { from = from + 1; to = c.len-to.result - 1 }) (omega (arith, l, c.len-to.ensures)) (omega (arith, c.len-to.ensures)) a.within);
-    }
+    let g : is_group (drop from (vec_items a.gathered.held)) ≡ true = sym (c.if-not-is_group.ensures ∙ ap is_group (take_rest c.as_slice.result.now from ∙ ap (drop from) c.as_slice.ensures.value)) in
+    let l : 2 ≤ n - from = omega (arith, group_long (drop from (vec_items a.gathered.held)) g, long_from a.gathered.held from) in (
+      (omega (arith, a.spans.room, c.push_reserved.ensures.capacity), tt),
+      (subst (λ (ss : List Span). all_within n ss ≡ true) (sym c.push_reserved.ensures.items) (within_push n (vec_items a.spans.held) (record { from = from + 1; to = c.len-to.result - 1 }) (omega (arith, l, c.len-to.ensures)) (omega (arith, c.len-to.ensures)) a.within), tt),
+    )
 
 pub returns-then-not-is_group : goal.returns-then-not-is_group
 returns-then-not-is_group c =
     let a = c.args.self.now in
-    let run = drop c.args.from (vec_items a.gathered.tokens) in
+    let run = drop c.args.from (vec_items a.gathered.held) in
     let g : is_group run ≡ false = sym (c.if-not-is_group.ensures ∙ ap is_group (take_rest c.as_slice.result.now c.args.from ∙ ap (drop c.args.from) c.as_slice.ensures.value)) in
     record {
       arguments = c.keep.ensures.arguments ∙ ap (λ (r : List Token). arguments_of a ++ r ∷ []) (sym (cond-false (is_group run) _ _ g));
@@ -42,13 +42,13 @@ returns-then-not-is_group c =
 pub returns : goal.returns
 returns c =
     let a = c.args.self.now in
-    let ts = vec_items a.gathered.tokens in
+    let ts = vec_items a.gathered.held in
     let from = c.args.from in
     let to = c.len-to.result in
-    let e : to ≡ length ts = c.len-to.ensures ∙ a.gathered.tokens.ok.0 in
+    let e : to ≡ length ts = c.len-to.ensures ∙ a.gathered.held.ok.0 in
     let g : is_group (drop from ts) ≡ true = sym (c.if-not-is_group.ensures ∙ ap is_group (take_rest c.as_slice.result.now from ∙ ap (drop from) c.as_slice.ensures.value)) in
     record {
-      arguments = ap (parts_of ts) c.push_reserved.ensures.items ∙ parts_push ts (vec_items a.spans) (record { from = from + 1; to = to - 1 }) ∙ ap (λ (r : List Token). parts_of ts (vec_items a.spans) ++ r ∷ []) (group_part ts from to (Name 0) e (omega (arith, c.len-to.ensures, c.requires.from)) g);
+      arguments = ap (parts_of ts) c.push_reserved.ensures.items ∙ parts_push ts (vec_items a.spans.held) (record { from = from + 1; to = to - 1 }) ∙ ap (λ (r : List Token). parts_of ts (vec_items a.spans.held) ++ r ∷ []) (group_part ts from to (Name 0) e (omega (arith, c.len-to.ensures, c.requires.from)) g);
       gathered = refl;
       spans = c.push_reserved.ensures.len;
     }
