@@ -58,7 +58,6 @@ impl Arguments {
         delimiter: Delimiter<'_>,
     ) -> Result<usize, MatcherCause>
         requires held { vec_len self.old.gathered.held ≤ terms.counted }
-        requires fits { terms.counted + terms.few ≤ 4096 }
         requires room { vec_len self.old.spans.held < 9 }
         ensures goes { (ds : List (List Read)) → fewest ds ≡ terms.few → Goes S.Source.reads S.Source.ahead S.Source.place categories.now terms.long (following (arguments_of self.old) terms.counted (delimiter_in delimiter.entry.words.now ∷ ds)) (listed names.old) source.old result (λ n. following (arguments_of self.new) (terms.counted + n) ds) (listed names.new) source.new }
         ensures fits { IfOk result (λ n. (terms.counted + n + terms.few ≤ 4096) × (vec_len self.new.gathered.held ≤ terms.counted + n)) }

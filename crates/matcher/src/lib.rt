@@ -1,6 +1,7 @@
 // The arguments of a macro call, read from any source of tokens.
 #![tactic(auto)]
 
+mod allowing;
 mod argument;
 mod arguments;
 mod before;

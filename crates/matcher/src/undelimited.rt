@@ -7,7 +7,7 @@ ghost use Rattle.matcher.specs.Held.{Kept};
 ghost use Rattle.matcher.specs.Hindering.{Under};
 
 use crate::arguments::Gathered;
-use crate::depths::{hindrance, passed};
+use crate::depths::passed;
 use crate::terms::Terms;
 use crate::tests::is_par;
 use calls::MatcherCause;
@@ -55,10 +55,9 @@ fn group<S: Source>(
         let Some(deeper) = passed(depth, token) else {
             return Ok(());
         };
-        let count = terms.counted + (gathered.held.len() - start + 3 + deeper) + terms.few;
-        if let Some(refusal) = hindrance(terms.long, is_par(token), count) {
-            return Err(MatcherCause::Matcher(refusal, source.place()));
-        }
+        terms
+            .allow(is_par(token), gathered.held.len() - start + 3 + deeper)
+            .map_err(|refusal| MatcherCause::Matcher(refusal, source.place()))?;
         gathered.held.push_reserved(token);
         depth = deeper;
     }
@@ -81,7 +80,6 @@ pub(crate) fn undelimited<S: Source>(
     gathered: &mut Gathered,
 ) -> Result<usize, MatcherCause>
     requires held { vec_len gathered.old.held ≤ terms.counted }
-    requires fits { terms.counted + terms.few ≤ 8192 }
     ensures goes { (p : Progress) → Under terms p → Goes S.Source.reads S.Source.ahead S.Source.place categories.now terms.long (on (skipping p)) (listed names.old) source.old result (λ n. ended p (drop (vec_len gathered.old.held) gathered.new.held.items) n) (listed names.new) source.new }
     ensures fits { IfOk result (λ n. (terms.counted + n + terms.few ≤ 4096) × (vec_len gathered.new.held ≤ vec_len gathered.old.held + n)) }
     ensures kept { Kept gathered.old.held gathered.new.held }
@@ -90,10 +88,9 @@ pub(crate) fn undelimited<S: Source>(
     if is_close(token) {
         return Err(MatcherCause::Matcher(MatcherRefusal::Unmatched, source.place()));
     }
-    let count = terms.counted + least(token) + terms.few;
-    if let Some(refusal) = hindrance(terms.long, is_par(token), count) {
-        return Err(MatcherCause::Matcher(refusal, source.place()));
-    }
+    terms
+        .allow(is_par(token), least(token))
+        .map_err(|refusal| MatcherCause::Matcher(refusal, source.place()))?;
     let start = gathered.held.len();
     if is_open(token) {
         group(source, categories, names, terms, gathered)?;

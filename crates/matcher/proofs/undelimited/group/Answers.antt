@@ -1,4 +1,4 @@
-use Rattle.std.proofs.Common.{◌≡◌, ℕ, ◌+◌, ◌-◌, Bool, [], ◌∷◌, ◌++◌, take, drop, Some, None, vec_items, vec_len, sym, ap, ◌∙◌, subst, arith}
+use Rattle.std.proofs.Common.{rules, ◌≡◌, ℕ, ◌+◌, ◌-◌, Bool, [], ◌∷◌, ◌++◌, take, drop, Some, None, vec_items, vec_len, sym, ap, ◌∙◌, subst, arith}
 use Rattle.std.proofs.lemmas.List.{length_push}
 use Rattle.std.proofs.lemmas.Result.{err_from_is_err_and}
 use Rattle.names.specs.Spelled.{listed}
@@ -6,9 +6,11 @@ use Rattle.matching.specs.Braces.{deeper, is_par}
 use Rattle.matching.specs.Dividing.{Permitted}
 use Rattle.matching.specs.Matching.{on, in_group, ended, feed}
 use Rattle.matching.proofs.Valid.{permitted_none}
+use Rattle.matching.specs.declared.refusal.MatcherRefusal.{MatcherRefusal}
+use Rattle.calls.specs.declared.fault.MatcherCause.TheVariants.{Matcher}
 use Rattle.matcher.specs.Hindering.{hindrance}
 use Rattle.matcher.proofs.Buffers.{long_from, none_from, all_before, pushed_from, pushed_before}
-use Rattle.matcher.proofs.Going.{stay, onward, turned, fails, refuses, read, unread}
+use Rattle.matcher.proofs.Going.{stay, onward, turned, fails, hinders, read, unread}
 use Rattle.matcher.proofs.Hindering.{by, unhindered, group_closes, group_deeper, group_on, group_permitted}
 use Rattle.matcher.proofs.undelimited.group.Goals as goal
 
@@ -38,7 +40,7 @@ group-preserved g c =
     let i = c.group.invariant in
     let deep = i.1 in
     let to = sym c.in-Some.ensures in
-    let free : hindrance long (is_par t) n ≡ None = ap (λ (b : Bool). hindrance long b n) (sym c.is_par.ensures) ∙ sym c.in_default-hindrance.ensures in
+    let free : hindrance long (is_par t) n ≡ None = search rules in
     let ok = unhindered long (is_par t) n free in
     let e = pushed_from v w t start i.4 c.push_reserved.ensures.items in
     let k = c.in_ok-token.ensures in (
@@ -83,8 +85,8 @@ returns-in_default g c =
       kept = ap (λ (k : ℕ). take k (vec_items c.group.gathered.held)) (sym c.len-start.ensures) ∙ i.5;
     }
 
-pub returns-in-Some-hindrance : goal.returns-in-Some-hindrance
-returns-in-Some-hindrance g c =
+pub returns-in_err-map_err : goal.returns-in_err-map_err
+returns-in_err-map_err g c =
     let v = c.group.gathered.held in
     let start = c.len-start.result in
     let inner = drop start (vec_items v) in
@@ -94,13 +96,13 @@ returns-in-Some-hindrance g c =
     let n : ℕ = c.args.terms.counted + (c.len.result - start + 3 + m) + c.args.terms.few in
     let i = c.group.invariant in
     let to = sym c.in-Some.ensures in
-    let r = c.in-Some-hindrance.refusal in
-    let bad : hindrance long (is_par t) n ≡ Some r = ap (λ (b : Bool). hindrance long b n) (sym c.is_par.ensures) ∙ sym c.in-Some-hindrance.ensures in
+    let bad : (r : MatcherRefusal) × (hindrance long (is_par t) n ≡ Some r) × (c.in_err-map_err.field-0.0 ≡ Matcher r (g.S.Source.place c.needed.new.source)) = search rules in
     let k = c.in_ok-token.ensures in
+    let q = err_from_is_err_and c.from_residual-in_err-map_err.result c.from_residual-in_err-map_err.ensures.1 in
     record {
       goes = λ p u.
-          let f = group_on long p inner c.group.depth t i.1 m n to i.2 (omega (arith, u.0, u.1, long_from v start, length_push inner t, c.len.ensures)) ∙ ap (by (on (in_group p (inner ++ t ∷ [])))) bad in
-          rw c.place.ensures (refuses _ _ _ _ long r (onward _ _ _ _ long (i.0 p u) (read _ _ _ _ long (in_group p inner) _ _ (listed c.needed.new.names) c.needed.new.source t k.takes k.reads)) f);
-      fits = tt;
+          let f = group_on long p inner c.group.depth t i.1 m n to i.2 (omega (arith, u.0, u.1, long_from v start, length_push inner t, c.len.ensures)) in
+          rw (q.1, q.2) (hinders _ _ _ _ long _ bad (onward _ _ _ _ long (i.0 p u) (read _ _ _ _ long (in_group p inner) _ _ (listed c.needed.new.names) c.needed.new.source t k.takes k.reads)) f);
+      fits = rw q.1 tt;
       kept = ap (λ (k : ℕ). take k (vec_items c.group.gathered.held)) (sym c.len-start.ensures) ∙ i.5;
     }
