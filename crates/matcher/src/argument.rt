@@ -6,6 +6,7 @@ ghost use Rattle.matching.specs.Matching.{fewest, following};
 ghost use Rattle.matcher.specs.Going.{Goes};
 ghost use Rattle.matcher.specs.Held.{arguments_of};
 ghost use Rattle.matcher.specs.Marks.{delimiter_in};
+ghost use Rattle.matcher.specs.Spans.{part_of};
 
 use crate::arguments::Arguments;
 use crate::delimited::delimited;
@@ -20,32 +21,32 @@ use sources::Source;
 use tokens::Category;
 
 impl Arguments {
-    // The tokens from a place on are one more argument.
-    fn keep(&mut self, from: usize)
-        requires from { from ≤ vec_len self.old.gathered.held }
+    // The tokens of a span are one more argument.
+    fn keep(&mut self, span: Span)
+        requires within { (span.from ≤ span.to) × (span.to ≤ vec_len self.old.gathered.held) }
         requires room { vec_len self.old.spans.held < 9 }
-        ensures arguments { arguments_of self.new ≡ arguments_of self.old ++ drop from self.old.gathered.held.items ∷ [] }
+        ensures arguments { arguments_of self.new ≡ arguments_of self.old ++ part_of self.old.gathered.held.items span ∷ [] }
         ensures gathered { self.new.gathered ≡ self.old.gathered }
         ensures spans { vec_len self.new.spans.held ≡ vec_len self.old.spans.held + 1 }
     {
-        let to = self.gathered.held.len();
-        self.spans.held.push_reserved(Span { from, to });
+        self.spans.held.push_reserved(span);
     }
 
-    // The same, without the braces of a group.
-    fn keep_stripped(&mut self, from: usize)
-        requires from { from ≤ vec_len self.old.gathered.held }
-        requires short { vec_len self.old.gathered.held ≤ 6145 }
-        requires room { vec_len self.old.spans.held < 9 }
-        ensures arguments { arguments_of self.new ≡ arguments_of self.old ++ stripped (drop from self.old.gathered.held.items) ∷ [] }
-        ensures gathered { self.new.gathered ≡ self.old.gathered }
-        ensures spans { vec_len self.new.spans.held ≡ vec_len self.old.spans.held + 1 }
+    // Where the tokens from a place on stand, without the braces of a group.
+    fn stripped(&self, from: usize) -> Span
+        requires from { from ≤ vec_len self.now.gathered.held }
+        requires short { vec_len self.now.gathered.held ≤ 6145 }
+        ensures within { (result.from ≤ result.to) × (result.to ≤ vec_len self.now.gathered.held) }
+        ensures part { part_of self.now.gathered.held.items result ≡ stripped (drop from self.now.gathered.held.items) }
     {
+        let to = self.gathered.held.len();
         if !is_group(&self.gathered.held.as_slice()[from..]) {
-            return self.keep(from);
+            return Span { from, to };
         }
-        let to = self.gathered.held.len() - 1;
-        self.spans.held.push_reserved(Span { from: from + 1, to });
+        Span {
+            from: from + 1,
+            to: to - 1,
+        }
     }
 
     // Reads one more argument, up to its delimiter; tells how many count for it.
@@ -63,10 +64,11 @@ impl Arguments {
         ensures fits { IfOk result (λ n. (terms.counted + n + terms.few ≤ 4096) × (vec_len self.new.gathered.held ≤ terms.counted + n)) }
         ensures spans { OnOk result (vec_len self.new.spans.held ≡ vec_len self.old.spans.held + 1) }
     {
-        let start = self.gathered.held.len();
+        let from = self.gathered.held.len();
         if delimiter.words.is_empty() {
             let count = undelimited(source, categories, names, terms, &mut self.gathered)?;
-            self.keep(start);
+            let to = self.gathered.held.len();
+            self.keep(Span { from, to });
             return Ok(count);
         }
         let count = delimited(
@@ -77,7 +79,8 @@ impl Arguments {
             delimiter,
             &mut self.gathered,
         )?;
-        self.keep_stripped(start);
+        let span = self.stripped(from);
+        self.keep(span);
         Ok(count)
     }
 }
