@@ -49,6 +49,7 @@ pub fn expansion_length(arguments: &Arguments, body: &[BodyWord]) -> Option<usiz
     ensures { result ≡ (if nat_le (length (substituted (arguments_of arguments.now) body.now)) 4096 then Some (length (substituted (arguments_of arguments.now) body.now)) else None) }
 {
     let mut count = 0usize;
+    // A `for` with `?`: the proof of a `try_fold` did not close.
     'body: for word in body {
         count = count
             .checked_add(word_length(arguments, *word))

@@ -8,8 +8,8 @@ ghost use Rattle.matcher.specs.Hindering.{Under};
 
 use crate::arguments::Gathered;
 use crate::depths::passed;
+use crate::telling::is_par;
 use crate::terms::Terms;
-use crate::tests::is_par;
 use calls::MatcherCause;
 use driving::{is_blank, is_close, is_open, needed};
 use matching::MatcherRefusal;

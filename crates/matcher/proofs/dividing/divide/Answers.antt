@@ -46,7 +46,7 @@ invariant_of-terms g c =
     let rest = take (length behind - length front) (drop (length front) behind) in
     let i = c.parameters.invariant in
     let later = next_delimiters ws behind front rest c.in-Some.field-0-0.now c.in-Some.ensures.cases.0 i.1 (parted behind front c.delimiter_at-delimiter.ensures) in
-    record { fits = omega (arith, i.4, ap fewest later, fewest_tail (delimiter_in front) (parameters_of rest).delimiters, c.undelimited_in.ensures); }
+    record { fits = omega (arith, i.4, ap fewest later, fewest_tail (delimiter_in front) (parameters_of rest).delimiters, c.undelimited_in.ensures) }
 
 pub returns-in_err-counted : goal.returns-in_err-counted
 returns-in_err-counted g c =
