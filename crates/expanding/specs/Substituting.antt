@@ -28,4 +28,4 @@ substituted args [] = []
 substituted args (w ∷ ws) = word_tokens args w ++ substituted args ws
 
 abbrev pub expansion_of : Expansion → List Token
-expansion_of e = vec_items e.tokens
+expansion_of e = vec_items e.tokens.held

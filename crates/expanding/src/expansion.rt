@@ -1,5 +1,4 @@
-ghost use Rattle.std.specs.Prelude.{◌≤◌, vec_capacity};
-
+use buffers::Buffer;
 use tokens::Token;
 
 // The most tokens of a macro's expansion.
@@ -8,8 +7,7 @@ pub(crate) const EXPANSION_LIMIT: usize = 4_096;
 // Space for a macro's expansion. All memory is taken at first.
 #[derive(Drop)]
 pub struct Expansion {
-    pub(crate) tokens: Vec<Token>,
-    ghost room: { 4096 ≤ vec_capacity tokens },
+    pub(crate) tokens: Buffer<Token, EXPANSION_LIMIT>,
 }
 
 // There are over 4,096 tokens.

@@ -1,8 +1,9 @@
-ghost use Rattle.std.specs.Prelude.{◌≡◌, ◌≤◌, [], length, Some, None, Ok, Err, IfOk, if◌then◌else◌, vec_capacity, nat_le};
+ghost use Rattle.std.specs.Prelude.{◌≡◌, ◌≤◌, [], length, Some, None, Ok, Err, IfOk, if◌then◌else◌, nat_le};
 ghost use Rattle.matcher.specs.Held.{arguments_of};
 ghost use Rattle.expanding.specs.Substituting.{argument_at, word_tokens, substituted, expansion_of};
 
 use crate::expansion::{EXPANSION_LIMIT, Expansion, TooLong};
+use buffers::Buffer;
 use matcher::Arguments;
 use std::alloc::{AllocError, Global};
 use tokens::{BodyWord, Token};
@@ -13,14 +14,14 @@ impl Expansion {
         ensures { IfOk result (λ e. expansion_of e ≡ []) }
     {
         Ok(Expansion {
-            tokens: Vec::with_capacity(heap, EXPANSION_LIMIT)?,
+            tokens: Buffer::new(heap)?,
         })
     }
 
     pub fn tokens(&self) -> &[Token]
         ensures { result.now ≡ expansion_of self.now }
     {
-        self.tokens.as_slice()
+        self.tokens.held.as_slice()
     }
 }
 
@@ -48,6 +49,7 @@ pub fn expansion_length(arguments: &Arguments, body: &[BodyWord]) -> Option<usiz
     ensures { result ≡ (if nat_le (length (substituted (arguments_of arguments.now) body.now)) 4096 then Some (length (substituted (arguments_of arguments.now) body.now)) else None) }
 {
     let mut count = 0usize;
+    // A `for` with `?`: the proof of a `try_fold` did not close.
     'body: for word in body {
         count = count
             .checked_add(word_length(arguments, *word))
@@ -56,31 +58,30 @@ pub fn expansion_length(arguments: &Arguments, body: &[BodyWord]) -> Option<usiz
     Some(count)
 }
 
-fn fill(arguments: &Arguments, body: &[BodyWord], tokens: &mut Vec<Token>)
-    requires empty { tokens.old.items ≡ [] }
-    requires fits { length (substituted (arguments_of arguments.now) body.now) ≤ vec_capacity tokens.old }
-    ensures items { tokens.new.items ≡ substituted (arguments_of arguments.now) body.now }
-    ensures capacity { vec_capacity tokens.old ≤ vec_capacity tokens.new }
-{
-    'body: for word in body {
-        match *word {
-            BodyWord::Token(token) => tokens.push_reserved(token),
-            BodyWord::Reference(reference) => {
-                let _ = tokens.extend_from_slice(referred(arguments, reference));
+impl Expansion {
+    fn fill(&mut self, arguments: &Arguments, body: &[BodyWord])
+        requires empty { expansion_of self.old ≡ [] }
+        requires fits { length (substituted (arguments_of arguments.now) body.now) ≤ 4096 }
+        ensures { expansion_of self.new ≡ substituted (arguments_of arguments.now) body.now }
+    {
+        'body: for word in body {
+            match *word {
+                BodyWord::Token(token) => self.tokens.held.push_reserved(token),
+                BodyWord::Reference(reference) => {
+                    let _ = self.tokens.held.extend_from_slice(referred(arguments, reference));
+                }
             }
         }
     }
-}
 
-impl Expansion {
     // Writes the tokens that a body gives with these arguments; where they do not fit, none are written.
     pub fn substitute(&mut self, arguments: &Arguments, body: &[BodyWord]) -> Result<(), TooLong>
         ensures answer { result ≡ (if nat_le (length (substituted (arguments_of arguments.now) body.now)) 4096 then Ok tt else Err (record {})) }
         ensures tokens { expansion_of self.new ≡ (if nat_le (length (substituted (arguments_of arguments.now) body.now)) 4096 then substituted (arguments_of arguments.now) body.now else []) }
     {
-        self.tokens.clear();
+        self.tokens.held.clear();
         expansion_length(arguments, body).ok_or(TooLong)?;
-        fill(arguments, body, &mut self.tokens);
+        self.fill(arguments, body);
         Ok(())
     }
 }

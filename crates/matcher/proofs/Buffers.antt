@@ -8,6 +8,9 @@ module _ {Z : Type 0} (v : Vec Token Z) where
   pub long_from : (n : ℕ) → length (drop n (vec_items v)) ≡ vec_len v - n
   long_from n = length-drop n (vec_items v) ∙ ap (λ (k : ℕ). k - n) (sym v.ok.0)
 
+  pub rest_from : (n to : ℕ) → to ≡ vec_len v → take (to - n) (drop n (vec_items v)) ≡ drop n (vec_items v)
+  rest_from n to e = take_all (to - n) (drop n (vec_items v)) (omega (arith, e, long_from n))
+
   pub none_from : (n : ℕ) → n ≡ vec_len v → drop n (vec_items v) ≡ []
   none_from n e = drop_all n (vec_items v) (omega (arith, v.ok.0))
 

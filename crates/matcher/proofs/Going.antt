@@ -1,5 +1,5 @@
 -- How readings of a call join.
-use Rattle.std.proofs.Common.{◌≡◌, Bool, List, Err, refl, ap, ◌∙◌}
+use Rattle.std.proofs.Common.{◌≡◌, Bool, List, Some, Option, Err, refl, ap, ◌∙◌}
 use Rattle.tokens.specs.declared.token.Token.{Token}
 use Rattle.lines.specs.Line.{Categories, Item}
 use Rattle.names.specs.Naming.{Spellings}
@@ -13,6 +13,7 @@ use Rattle.driving.specs.Drives.{drive, stands_at}
 use Rattle.calls.specs.declared.fault.MatcherCause.{MatcherCause}
 use Rattle.calls.specs.declared.fault.MatcherCause.TheVariants.{Pile, Matcher}
 use Rattle.matcher.specs.Going.{driven, answered, ReachedFrom, Leads, Fails}
+use Rattle.matcher.proofs.Hindering.{by}
 
 module _ {S : Type 0} (reads : Categories → Spellings → S → S → Type 0) (ahead : S → List Item) (place : S → Place) (cs : Categories) (long : Bool) where
   pub stay : (s : Step) (ns : Spellings) (x : S) → Leads reads ahead place cs long s ns x s ns x
@@ -46,6 +47,10 @@ module _ {S : Type 0} (reads : Categories → Spellings → S → S → Type 0) 
           stands = ap stands_at b.drives;
           reached = b.reaches x' refl;
         }
+
+    -- something hinders
+    pub hinders : (s'' : Step) {h : Option MatcherRefusal} {f : MatcherCause} → (r : MatcherRefusal) × (h ≡ Some r) × (f ≡ Matcher r (place x')) → Leads reads ahead place cs long s ns x s' ns' x' → s' ≡ by s'' h → Fails reads ahead place cs long s ns x f ns' x'
+    hinders s'' (r, e, q) a k = rw q (refuses r a (k ∙ ap (by s'') e))
 
   -- a token is read
   module _ (h : Phase) (ns : Spellings) (x : S) (ns' : Spellings) (x' : S) where

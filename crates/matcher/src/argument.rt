@@ -6,6 +6,7 @@ ghost use Rattle.matching.specs.Matching.{fewest, following};
 ghost use Rattle.matcher.specs.Going.{Goes};
 ghost use Rattle.matcher.specs.Held.{arguments_of};
 ghost use Rattle.matcher.specs.Marks.{delimiter_in};
+ghost use Rattle.matcher.specs.Spans.{part_of};
 
 use crate::arguments::Arguments;
 use crate::delimited::delimited;
@@ -20,32 +21,32 @@ use sources::Source;
 use tokens::Category;
 
 impl Arguments {
-    // The tokens from a place on are one more argument.
-    fn keep(&mut self, from: usize)
-        requires from { from ≤ vec_len self.old.gathered.tokens }
-        requires room { vec_len self.old.spans < 9 }
-        ensures arguments { arguments_of self.new ≡ arguments_of self.old ++ drop from self.old.gathered.tokens.items ∷ [] }
+    // The tokens of a span are one more argument.
+    fn keep(&mut self, span: Span)
+        requires within { (span.from ≤ span.to) × (span.to ≤ vec_len self.old.gathered.held) }
+        requires room { vec_len self.old.spans.held < 9 }
+        ensures arguments { arguments_of self.new ≡ arguments_of self.old ++ part_of self.old.gathered.held.items span ∷ [] }
         ensures gathered { self.new.gathered ≡ self.old.gathered }
-        ensures spans { vec_len self.new.spans ≡ vec_len self.old.spans + 1 }
+        ensures spans { vec_len self.new.spans.held ≡ vec_len self.old.spans.held + 1 }
     {
-        let to = self.gathered.tokens.len();
-        self.spans.push_reserved(Span { from, to });
+        self.spans.held.push_reserved(span);
     }
 
-    // The same, without the braces of a group.
-    fn keep_stripped(&mut self, from: usize)
-        requires from { from ≤ vec_len self.old.gathered.tokens }
-        requires short { vec_len self.old.gathered.tokens ≤ 6145 }
-        requires room { vec_len self.old.spans < 9 }
-        ensures arguments { arguments_of self.new ≡ arguments_of self.old ++ stripped (drop from self.old.gathered.tokens.items) ∷ [] }
-        ensures gathered { self.new.gathered ≡ self.old.gathered }
-        ensures spans { vec_len self.new.spans ≡ vec_len self.old.spans + 1 }
+    // Where the tokens from a place on stand, without the braces of a group.
+    fn stripped(&self, from: usize) -> Span
+        requires from { from ≤ vec_len self.now.gathered.held }
+        requires short { vec_len self.now.gathered.held ≤ 6145 }
+        ensures within { (result.from ≤ result.to) × (result.to ≤ vec_len self.now.gathered.held) }
+        ensures part { part_of self.now.gathered.held.items result ≡ stripped (drop from self.now.gathered.held.items) }
     {
-        if !is_group(&self.gathered.tokens.as_slice()[from..]) {
-            return self.keep(from);
+        let to = self.gathered.held.len();
+        if !is_group(&self.gathered.held.as_slice()[from..]) {
+            return Span { from, to };
         }
-        let to = self.gathered.tokens.len() - 1;
-        self.spans.push_reserved(Span { from: from + 1, to });
+        Span {
+            from: from + 1,
+            to: to - 1,
+        }
     }
 
     // Reads one more argument, up to its delimiter; tells how many count for it.
@@ -57,17 +58,17 @@ impl Arguments {
         terms: Terms,
         delimiter: Delimiter<'_>,
     ) -> Result<usize, MatcherCause>
-        requires held { vec_len self.old.gathered.tokens ≤ terms.counted }
-        requires fits { terms.counted + terms.few ≤ 4096 }
-        requires room { vec_len self.old.spans < 9 }
+        requires held { vec_len self.old.gathered.held ≤ terms.counted }
+        requires room { vec_len self.old.spans.held < 9 }
         ensures goes { (ds : List (List Read)) → fewest ds ≡ terms.few → Goes S.Source.reads S.Source.ahead S.Source.place categories.now terms.long (following (arguments_of self.old) terms.counted (delimiter_in delimiter.entry.words.now ∷ ds)) (listed names.old) source.old result (λ n. following (arguments_of self.new) (terms.counted + n) ds) (listed names.new) source.new }
-        ensures fits { IfOk result (λ n. (terms.counted + n + terms.few ≤ 4096) × (vec_len self.new.gathered.tokens ≤ terms.counted + n)) }
-        ensures spans { OnOk result (vec_len self.new.spans ≡ vec_len self.old.spans + 1) }
+        ensures fits { IfOk result (λ n. (terms.counted + n + terms.few ≤ 4096) × (vec_len self.new.gathered.held ≤ terms.counted + n)) }
+        ensures spans { OnOk result (vec_len self.new.spans.held ≡ vec_len self.old.spans.held + 1) }
     {
-        let start = self.gathered.tokens.len();
+        let from = self.gathered.held.len();
         if delimiter.words.is_empty() {
             let count = undelimited(source, categories, names, terms, &mut self.gathered)?;
-            self.keep(start);
+            let to = self.gathered.held.len();
+            self.keep(Span { from, to });
             return Ok(count);
         }
         let count = delimited(
@@ -78,7 +79,8 @@ impl Arguments {
             delimiter,
             &mut self.gathered,
         )?;
-        self.keep_stripped(start);
+        let span = self.stripped(from);
+        self.keep(span);
         Ok(count)
     }
 }

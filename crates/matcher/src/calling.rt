@@ -34,6 +34,7 @@ pub fn matched<S: Source>(
 {
     let guard = Guard::enter(scan, Status::Matching);
     arguments.clear();
+    // A match: the closure of `map_err` would have to clear the arguments and read the guard.
     match divide(source, categories, names, long, text.words, arguments) {
         Ok(()) => Ok(()),
         Err(cause) => {

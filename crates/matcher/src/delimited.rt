@@ -9,7 +9,6 @@ ghost use Rattle.matcher.specs.Marks.{delimiter_in};
 
 use crate::arguments::Gathered;
 use crate::delimiter::Delimiter;
-use crate::depths::hindrance;
 use crate::mark::Mark;
 use crate::settling::settle;
 use crate::terms::Terms;
@@ -29,36 +28,34 @@ pub(crate) fn delimited<S: Source>(
     delimiter: Delimiter<'_>,
     gathered: &mut Gathered,
 ) -> Result<usize, MatcherCause>
-    requires held { vec_len gathered.old.tokens ≤ terms.counted }
-    requires fits { terms.counted + terms.few ≤ 4096 }
+    requires held { vec_len gathered.old.held ≤ terms.counted }
     requires some { 1 ≤ length delimiter.words.now }
-    ensures goes { (p : Progress) → Under terms p → Goes S.Source.reads S.Source.ahead S.Source.place categories.now terms.long (on (in_run p (delimiter_in delimiter.entry.words.now) [])) (listed names.old) source.old result (λ n. ended p (stripped (drop (vec_len gathered.old.tokens) gathered.new.tokens.items)) n) (listed names.new) source.new }
-    ensures fits { IfOk result (λ n. (terms.counted + n + terms.few ≤ 4096) × (vec_len gathered.new.tokens ≡ vec_len gathered.old.tokens + n)) }
-    ensures kept { Kept gathered.old.tokens gathered.new.tokens }
+    ensures goes { (p : Progress) → Under terms p → Goes S.Source.reads S.Source.ahead S.Source.place categories.now terms.long (on (in_run p (delimiter_in delimiter.entry.words.now) [])) (listed names.old) source.old result (λ n. ended p (stripped (drop (vec_len gathered.old.held) gathered.new.held.items)) n) (listed names.new) source.new }
+    ensures fits { IfOk result (λ n. (terms.counted + n + terms.few ≤ 4096) × (vec_len gathered.new.held ≡ vec_len gathered.old.held + n)) }
+    ensures kept { Kept gathered.old.held gathered.new.held }
 {
-    let start = gathered.tokens.len();
+    let start = gathered.held.len();
     let width = delimiter.words.len();
     let mut at = 0;
     let mut depth = 0;
     'run: loop {
         let token = needed(source, categories, names)?;
-        gathered.tokens.push_reserved(token);
+        gathered.held.push_reserved(token);
         let mark = Mark {
             at,
             depth,
             par: false,
         };
-        let Some(next) = settle(&gathered.tokens.as_slice()[start..], delimiter, mark) else {
+        let Some(next) = settle(&gathered.held.as_slice()[start..], delimiter, mark) else {
             return Err(MatcherCause::Matcher(MatcherRefusal::Unmatched, source.place()));
         };
-        let count = terms.counted + (next.at + next.depth) + terms.few;
-        if let Some(refusal) = hindrance(terms.long, next.par, count) {
-            return Err(MatcherCause::Matcher(refusal, source.place()));
-        }
+        terms
+            .allow(next.par, next.at + next.depth)
+            .map_err(|refusal| MatcherCause::Matcher(refusal, source.place()))?;
         at = next.at;
         depth = next.depth;
-        if gathered.tokens.len() - start == at + width {
-            gathered.tokens.truncate(start + at);
+        if gathered.held.len() - start == at + width {
+            gathered.held.truncate(start + at);
             return Ok(at);
         }
     }

@@ -24,7 +24,7 @@ pub(crate) fn divide<S: Source>(
     words: &[ParameterWord],
     arguments: &mut Arguments,
 ) -> Result<(), MatcherCause>
-    requires empty { (vec_len arguments.old.gathered.tokens ≡ 0) × (vec_len arguments.old.spans ≡ 0) }
+    requires empty { (vec_len arguments.old.gathered.held ≡ 0) × (vec_len arguments.old.spans.held ≡ 0) }
     requires short { length words.now ≤ 2048 }
     requires few { parameters_in words.now ≤ 9 }
     ensures { Goes S.Source.reads S.Source.ahead S.Source.place categories.now long (begin (parameters_of words.now)) (listed names.old) source.old result (λ _. out (matched (arguments_of arguments.new))) (listed names.new) source.new }

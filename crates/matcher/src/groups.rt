@@ -12,6 +12,7 @@ fn deeper(tokens: &[Token]) -> Option<usize>
     ensures { result ≡ deeper 0 tokens.now }
 {
     let mut depth = 0;
+    // A `for` with `?`: the proof of a `try_fold` did not close.
     'tokens: for token in tokens {
         depth = passed(depth, *token)?;
     }

@@ -3,8 +3,8 @@ ghost use Rattle.std.specs.Option.{option_map};
 ghost use Rattle.std.specs.List.{slice_get};
 ghost use Rattle.matcher.specs.Held.{arguments_of};
 
-use crate::arguments::{Arguments, Gathered, TOKENS_LIMIT};
-use crate::text::PARAMETERS_LIMIT;
+use crate::arguments::Arguments;
+use buffers::Buffer;
 use std::alloc::{AllocError, Global};
 use tokens::Token;
 
@@ -13,33 +13,32 @@ impl Arguments {
     pub fn new(heap: Global) -> Result<Arguments, AllocError>
         ensures { IfOk result (λ a. arguments_of a ≡ []) }
     {
-        let gathered = Gathered {
-            tokens: Vec::with_capacity(heap, TOKENS_LIMIT)?,
-        };
-        let spans = Vec::with_capacity(heap, PARAMETERS_LIMIT)?;
-        Ok(Arguments { gathered, spans })
+        Ok(Arguments {
+            gathered: Buffer::new(heap)?,
+            spans: Buffer::new(heap)?,
+        })
     }
 
     // How many arguments there are.
     pub fn len(&self) -> usize
         ensures { result ≡ length (arguments_of self.now) }
     {
-        self.spans.len()
+        self.spans.held.len()
     }
 
     // The tokens of an argument, from 0.
     pub fn get(&self, n: usize) -> Option<&[Token]>
         ensures { option_map (λ x. x.now) result ≡ slice_get (arguments_of self.now) n }
     {
-        let span = self.spans.get(n)?;
-        self.gathered.tokens.as_slice().get(span.from..span.to)
+        let span = self.spans.held.get(n)?;
+        self.gathered.held.as_slice().get(span.from..span.to)
     }
 
     pub(crate) fn clear(&mut self)
         ensures arguments { arguments_of self.new ≡ [] }
-        ensures empty { (vec_len self.new.gathered.tokens ≡ 0) × (vec_len self.new.spans ≡ 0) }
+        ensures empty { (vec_len self.new.gathered.held ≡ 0) × (vec_len self.new.spans.held ≡ 0) }
     {
-        self.spans.clear();
-        self.gathered.tokens.clear();
+        self.spans.held.clear();
+        self.gathered.held.clear();
     }
 }

@@ -1,6 +1,7 @@
 // The arguments of a macro call, read from any source of tokens.
 #![tactic(auto)]
 
+mod allowing;
 mod argument;
 mod arguments;
 mod before;
@@ -14,8 +15,8 @@ mod holding;
 mod mark;
 mod settling;
 mod span;
+mod telling;
 mod terms;
-mod tests;
 mod text;
 mod texts;
 mod undelimited;

@@ -6,7 +6,7 @@ ghost use Rattle.matcher.specs.Marks.{delimiter_in, begins, Marked, moved};
 use crate::delimiter::Delimiter;
 use crate::depths::passed;
 use crate::mark::Mark;
-use crate::tests::is_par;
+use crate::telling::is_par;
 use tokens::{ParameterWord, Token};
 
 // Whether a token stands at a place of a delimiter.
@@ -38,6 +38,7 @@ pub(crate) fn settle(run: &[Token], delimiter: Delimiter<'_>, from: Mark) -> Opt
     ensures { MatchOption result (deeper 0 (settled_from (delimiter_in delimiter.entry.words.now) (take from.at run.now) (drop from.at run.now)) ≡ None) (λ m. Marked run.now from.at m × (settled_from (delimiter_in delimiter.entry.words.now) (take from.at run.now) (drop from.at run.now) ≡ take m.at run.now)) }
 {
     let mut mark = from;
+    // Labelled loops: the place that is found breaks both.
     'place: loop {
         'delimiter: for (place, token) in run[mark.at..].iter().enumerate() {
             if mark.depth > 0 || !stands(delimiter, place, *token) {

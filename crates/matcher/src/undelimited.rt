@@ -7,9 +7,9 @@ ghost use Rattle.matcher.specs.Held.{Kept};
 ghost use Rattle.matcher.specs.Hindering.{Under};
 
 use crate::arguments::Gathered;
-use crate::depths::{hindrance, passed};
+use crate::depths::passed;
+use crate::telling::is_par;
 use crate::terms::Terms;
-use crate::tests::is_par;
 use calls::MatcherCause;
 use driving::{is_blank, is_close, is_open, needed};
 use matching::MatcherRefusal;
@@ -42,24 +42,23 @@ fn group<S: Source>(
     terms: Terms,
     gathered: &mut Gathered,
 ) -> Result<(), MatcherCause>
-    requires held { vec_len gathered.old.tokens ≤ terms.counted }
+    requires held { vec_len gathered.old.held ≤ terms.counted }
     requires fits { terms.counted + 2 + terms.few ≤ 4096 }
-    ensures goes { (p : Progress) → Under terms p → Goes S.Source.reads S.Source.ahead S.Source.place categories.now terms.long (on (in_group p [])) (listed names.old) source.old result (λ _. ended p (drop (vec_len gathered.old.tokens) gathered.new.tokens.items) (vec_len gathered.new.tokens - vec_len gathered.old.tokens + 2)) (listed names.new) source.new }
-    ensures fits { OnOk result (terms.counted + (vec_len gathered.new.tokens - vec_len gathered.old.tokens + 2) + terms.few ≤ 4096) }
-    ensures kept { Kept gathered.old.tokens gathered.new.tokens }
+    ensures goes { (p : Progress) → Under terms p → Goes S.Source.reads S.Source.ahead S.Source.place categories.now terms.long (on (in_group p [])) (listed names.old) source.old result (λ _. ended p (drop (vec_len gathered.old.held) gathered.new.held.items) (vec_len gathered.new.held - vec_len gathered.old.held + 2)) (listed names.new) source.new }
+    ensures fits { OnOk result (terms.counted + (vec_len gathered.new.held - vec_len gathered.old.held + 2) + terms.few ≤ 4096) }
+    ensures kept { Kept gathered.old.held gathered.new.held }
 {
-    let start = gathered.tokens.len();
+    let start = gathered.held.len();
     let mut depth = 0;
     'group: loop {
         let token = needed(source, categories, names)?;
         let Some(deeper) = passed(depth, token) else {
             return Ok(());
         };
-        let count = terms.counted + (gathered.tokens.len() - start + 3 + deeper) + terms.few;
-        if let Some(refusal) = hindrance(terms.long, is_par(token), count) {
-            return Err(MatcherCause::Matcher(refusal, source.place()));
-        }
-        gathered.tokens.push_reserved(token);
+        terms
+            .allow(is_par(token), gathered.held.len() - start + 3 + deeper)
+            .map_err(|refusal| MatcherCause::Matcher(refusal, source.place()))?;
+        gathered.held.push_reserved(token);
         depth = deeper;
     }
 }
@@ -80,25 +79,23 @@ pub(crate) fn undelimited<S: Source>(
     terms: Terms,
     gathered: &mut Gathered,
 ) -> Result<usize, MatcherCause>
-    requires held { vec_len gathered.old.tokens ≤ terms.counted }
-    requires fits { terms.counted + terms.few ≤ 8192 }
-    ensures goes { (p : Progress) → Under terms p → Goes S.Source.reads S.Source.ahead S.Source.place categories.now terms.long (on (skipping p)) (listed names.old) source.old result (λ n. ended p (drop (vec_len gathered.old.tokens) gathered.new.tokens.items) n) (listed names.new) source.new }
-    ensures fits { IfOk result (λ n. (terms.counted + n + terms.few ≤ 4096) × (vec_len gathered.new.tokens ≤ vec_len gathered.old.tokens + n)) }
-    ensures kept { Kept gathered.old.tokens gathered.new.tokens }
+    requires held { vec_len gathered.old.held ≤ terms.counted }
+    ensures goes { (p : Progress) → Under terms p → Goes S.Source.reads S.Source.ahead S.Source.place categories.now terms.long (on (skipping p)) (listed names.old) source.old result (λ n. ended p (drop (vec_len gathered.old.held) gathered.new.held.items) n) (listed names.new) source.new }
+    ensures fits { IfOk result (λ n. (terms.counted + n + terms.few ≤ 4096) × (vec_len gathered.new.held ≤ vec_len gathered.old.held + n)) }
+    ensures kept { Kept gathered.old.held gathered.new.held }
 {
     let token = unblanked(source, categories, names)?;
     if is_close(token) {
         return Err(MatcherCause::Matcher(MatcherRefusal::Unmatched, source.place()));
     }
-    let count = terms.counted + least(token) + terms.few;
-    if let Some(refusal) = hindrance(terms.long, is_par(token), count) {
-        return Err(MatcherCause::Matcher(refusal, source.place()));
-    }
-    let start = gathered.tokens.len();
+    terms
+        .allow(is_par(token), least(token))
+        .map_err(|refusal| MatcherCause::Matcher(refusal, source.place()))?;
+    let start = gathered.held.len();
     if is_open(token) {
         group(source, categories, names, terms, gathered)?;
-        return Ok(gathered.tokens.len() - start + 2);
+        return Ok(gathered.held.len() - start + 2);
     }
-    gathered.tokens.push_reserved(token);
+    gathered.held.push_reserved(token);
     Ok(1)
 }

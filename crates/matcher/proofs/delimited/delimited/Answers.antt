@@ -1,19 +1,21 @@
-use Rattle.std.proofs.Common.{◌≡◌, ℕ, ◌+◌, ◌-◌, ◌≤◌, true, false, eqb, List, [], ◌∷◌, ◌++◌, length, take, drop, Some, None, vec_items, vec_len, sym, refl, ap, ◌∙◌, subst, arith}
+use Rattle.std.proofs.Common.{◌≡◌, ℕ, ◌+◌, ◌-◌, ◌≤◌, true, false, eqb, List, [], ◌∷◌, ◌++◌, length, take, drop, Some, None, vec_items, vec_len, sym, refl, ap, ◌∙◌, subst, arith, rules}
 use Rattle.std.proofs.lemmas.List.{length_push, drop-take, take-take, take_rest}
 use Rattle.std.proofs.lemmas.Result.{err_from_is_err_and}
 use Rattle.std.proofs.lemmas.Bool.{cond-true, cond-false, eq-eqb, ne_eqb}
 use Rattle.tokens.specs.declared.token.Token.{Token}
 use Rattle.names.specs.Spelled.{listed}
+use Rattle.matching.specs.declared.refusal.MatcherRefusal.{MatcherRefusal}
 use Rattle.matching.specs.declared.refusal.MatcherRefusal.TheVariants.{Unmatched}
 use Rattle.matching.specs.Braces.{deeper}
 use Rattle.matching.specs.Dividing.{stripped}
 use Rattle.matching.specs.Matching.{on, in_run, ended, settled, settled_from}
 use Rattle.matching.proofs.Valid.{permitted_none}
 use Rattle.matcher.specs.declared.mark.Mark.{Mark}
+use Rattle.calls.specs.declared.fault.MatcherCause.TheVariants.{Matcher}
 use Rattle.matcher.specs.Hindering.{hindrance}
 use Rattle.matcher.specs.Marks.{delimiter_in, Marked}
 use Rattle.matcher.proofs.Buffers.{long_from, none_from, all_before, pushed_from, pushed_before}
-use Rattle.matcher.proofs.Going.{stay, onward, turned, fails, refuses, read, unread}
+use Rattle.matcher.proofs.Going.{stay, onward, turned, fails, refuses, hinders, read, unread}
 use Rattle.matcher.proofs.Hindering.{by, unhindered}
 use Rattle.matcher.proofs.Running.{fresh, unmatched_x, settled_then, told_then, pending_then, fed_then}
 use Rattle.matcher.proofs.delimited.delimited.Goals as goal
@@ -24,7 +26,7 @@ Found d at m x = Marked x at m × (settled_from d (take at x) (drop at x) ≡ ta
 
 pub run-init : goal.run-init
 run-init g c =
-    let v = c.args.gathered.now.tokens in
+    let v = c.args.gathered.now.held in
     let none = none_from v c.len-start.result c.len-start.ensures in
     let long = c.args.terms.long in
     let d = delimiter_in c.args.delimiter.words.now in (
@@ -32,7 +34,7 @@ run-init g c =
       ap (settled d) none ∙ ap (take 0) (sym none),
       refl,
       permitted_none long,
-      omega (arith, c.requires.fits),
+      omega (arith, c.args.terms.fits),
       omega arith,
       omega (arith, c.len-start.ensures),
       omega (arith, c.len-start.ensures, c.requires.some),
@@ -41,7 +43,7 @@ run-init g c =
 
 pub settle-requires : goal.settle-requires
 settle-requires g c =
-    let v = c.run.gathered.tokens in
+    let v = c.run.gathered.held in
     let w = c.push_reserved.new.self in
     let start = c.len-start.result in
     let u = drop start (vec_items v) in
@@ -62,12 +64,12 @@ returns-in_err-token g c =
     record {
       goes = λ q u. rw (p.1, p.2) (fails _ _ _ _ _ (i.0 q u) (unread _ _ _ _ _ (in_run q _ _) _ _ (listed c.needed.new.names) c.needed.new.source c.in_err-token.field-0.0 t.takes t.reads));
       fits = rw p.1 tt;
-      kept = ap (λ (z : ℕ). take z (vec_items c.run.gathered.tokens)) (sym c.len-start.ensures) ∙ i.8;
+      kept = ap (λ (z : ℕ). take z (vec_items c.run.gathered.held)) (sym c.len-start.ensures) ∙ i.8;
     }
 
 pub returns-in_default : goal.returns-in_default
 returns-in_default g c =
-    let v = c.run.gathered.tokens in
+    let v = c.run.gathered.held in
     let w = c.push_reserved.new.self in
     let start = c.len-start.result in
     let u = drop start (vec_items v) in
@@ -87,10 +89,10 @@ returns-in_default g c =
       kept = ap (λ (z : ℕ). take z (vec_items w)) (sym c.len-start.ensures) ∙ pushed_before v w t start (omega (arith, i.6)) c.push_reserved.ensures.items ∙ i.8;
     }
 
-pub returns-in-Some-hindrance : goal.returns-in-Some-hindrance
+pub returns-in_err-map_err : goal.returns-in_err-map_err
 unfolding Found
-returns-in-Some-hindrance g c =
-    let v = c.run.gathered.tokens in
+returns-in_err-map_err g c =
+    let v = c.run.gathered.held in
     let w = c.push_reserved.new.self in
     let start = c.len-start.result in
     let u = drop start (vec_items v) in
@@ -106,18 +108,18 @@ returns-in-Some-hindrance g c =
     let m = c.in-Some.next in
     let f : Found d c.run.at m x = subst (Found d c.run.at m) b c.in-Some.ensures in
     let n : ℕ = c.args.terms.counted + (m.at + m.depth) + c.args.terms.few in
-    let r = c.in-Some-hindrance.refusal in
-    let bad : hindrance long m.par n ≡ Some r = sym c.in-Some-hindrance.ensures in
+    let bad : (r : MatcherRefusal) × (hindrance long m.par n ≡ Some r) × (c.in_err-map_err.field-0.0 ≡ Matcher r (g.S.Source.place c.needed.new.source)) = search rules in
+    let q = err_from_is_err_and c.from_residual-in_err-map_err.result c.from_residual-in_err-map_err.ensures.1 in
     record {
-      goes = λ p o. rw c.place-in-Some-hindrance.ensures (refuses _ _ _ _ long r (onward _ _ _ _ long (i.0 p o) (read _ _ _ _ long (in_run p d u) _ _ (listed c.needed.new.names) c.needed.new.source t k.takes k.reads)) (fed_then long d u t x e c.run.at c.run.depth h i.5 i.1 i.2 i.3 m f.0 f.1 p (length c.args.delimiter.words.now) n (sym c.args.delimiter.tokens) (omega (arith, o.0, o.1)) ∙ ap (by _) bad));
-      fits = tt;
+      goes = λ p o. rw (q.1, q.2) (hinders _ _ _ _ long _ bad (onward _ _ _ _ long (i.0 p o) (read _ _ _ _ long (in_run p d u) _ _ (listed c.needed.new.names) c.needed.new.source t k.takes k.reads)) (fed_then long d u t x e c.run.at c.run.depth h i.5 i.1 i.2 i.3 m f.0 f.1 p (length c.args.delimiter.words.now) n (sym c.args.delimiter.tokens) (omega (arith, o.0, o.1))));
+      fits = rw q.1 tt;
       kept = ap (λ (z : ℕ). take z (vec_items w)) (sym c.len-start.ensures) ∙ pushed_before v w t start (omega (arith, i.6)) c.push_reserved.ensures.items ∙ i.8;
     }
 
 pub run-preserved : goal.run-preserved
 unfolding Found
 run-preserved g c =
-    let v = c.run.gathered.tokens in
+    let v = c.run.gathered.held in
     let w = c.push_reserved.new.self in
     let start = c.len-start.result in
     let u = drop start (vec_items v) in
@@ -133,7 +135,7 @@ run-preserved g c =
     let m = c.in-Some.next in
     let f : Found d c.run.at m x = subst (Found d c.run.at m) b c.in-Some.ensures in
     let n : ℕ = c.args.terms.counted + (m.at + m.depth) + c.args.terms.few in
-    let free : hindrance long m.par n ≡ None = sym c.in_default-hindrance.ensures in
+    let free : hindrance long m.par n ≡ None = search rules in
     let ok = unhindered long m.par n free in
     let len : length x ≡ vec_len w - start = long_from w start in
     let other : eqb (length x) (m.at + length c.args.delimiter.words.now) ≡ false = ne_eqb (length x) (m.at + length c.args.delimiter.words.now) (λ q. c.if-len-start.false (omega (arith, q, len, c.len.ensures))) in
@@ -152,7 +154,7 @@ run-preserved g c =
 pub returns-then-len-start : goal.returns-then-len-start
 unfolding Found
 returns-then-len-start g c =
-    let v = c.run.gathered.tokens in
+    let v = c.run.gathered.held in
     let w = c.push_reserved.new.self in
     let start = c.len-start.result in
     let u = drop start (vec_items v) in
@@ -169,11 +171,11 @@ returns-then-len-start g c =
     let f : Found d c.run.at m x = subst (Found d c.run.at m) b c.in-Some.ensures in
     let n : ℕ = c.args.terms.counted + (m.at + m.depth) + c.args.terms.few in
     let z = c.truncate.new.self in
-    let free : hindrance long m.par n ≡ None = sym c.in_default-hindrance.ensures in
+    let free : hindrance long m.par n ≡ None = search rules in
     let ok = unhindered long m.par n free in
     let len : length x ≡ vec_len w - start = long_from w start in
     let all : eqb (length x) (m.at + length c.args.delimiter.words.now) ≡ true = eq-eqb (length x) (m.at + length c.args.delimiter.words.now) (omega (arith, len, c.if-len-start.true, c.len.ensures)) in
-    let cut : take m.at x ≡ drop (vec_len c.args.gathered.now.tokens) (vec_items z) = sym (drop-take start m.at (vec_items w)) ∙ ap (drop start) (sym c.truncate.ensures.items) ∙ ap (λ (q : ℕ). drop q (vec_items z)) c.len-start.ensures in
+    let cut : take m.at x ≡ drop (vec_len c.args.gathered.now.held) (vec_items z) = sym (drop-take start m.at (vec_items w)) ∙ ap (drop start) (sym c.truncate.ensures.items) ∙ ap (λ (q : ℕ). drop q (vec_items z)) c.len-start.ensures in
     let short : start + m.at ≤ vec_len w = omega (arith, f.0.within, len, i.6, c.push_reserved.ensures.len) in
     record {
       goes = λ p o. onward _ _ _ _ long (i.0 p o) (turned _ _ _ _ long (read _ _ _ _ long (in_run p d u) _ _ (listed c.needed.new.names) c.needed.new.source t k.takes k.reads) (fed_then long d u t x e c.run.at c.run.depth h i.5 i.1 i.2 i.3 m f.0 f.1 p (length c.args.delimiter.words.now) n (sym c.args.delimiter.tokens) (omega (arith, o.0, o.1)) ∙ ap (by _) free ∙ cond-true (eqb (length x) (m.at + length c.args.delimiter.words.now)) _ _ all ∙ ap (λ (q : List Token). ended p (stripped q) m.at) cut));

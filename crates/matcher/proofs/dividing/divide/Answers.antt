@@ -12,8 +12,8 @@ use Rattle.matcher.proofs.Going.{stay, stay_at, onward, turned, fails}
 use Rattle.matcher.proofs.Wording.{fewest_short, fewest_tail, parted, next_delimiters, next_parameters}
 use Rattle.matcher.proofs.dividing.divide.Goals as goal
 
-no_arguments : (a : Arguments) → vec_len a.spans ≡ 0 → arguments_of a ≡ []
-no_arguments a e = ap (parts_of (vec_items a.gathered.tokens)) (nil_from_length (vec_items a.spans) (sym a.spans.ok.0 ∙ e))
+no_arguments : (a : Arguments) → vec_len a.spans.held ≡ 0 → arguments_of a ≡ []
+no_arguments a e = ap (parts_of (vec_items a.gathered.held)) (nil_from_length (vec_items a.spans.held) (sym a.spans.held.ok.0 ∙ e))
 
 pub returns-in_err-text_before : goal.returns-in_err-text_before
 returns-in_err-text_before g c =
@@ -38,15 +38,15 @@ parameters-init g c =
       omega (arith, c.requires.empty.1, p.parameters, c.requires.few),
     )
 
-pub read-requires-clause-fits : goal.read-requires-clause-fits
-read-requires-clause-fits g c =
+pub invariant_of-terms : goal.invariant_of-terms
+invariant_of-terms g c =
     let ws = c.parameters.rest.now in
     let behind = c.in-Some.behind.now in
     let front = c.delimiter_at-delimiter.result.words.now in
     let rest = take (length behind - length front) (drop (length front) behind) in
     let i = c.parameters.invariant in
     let later = next_delimiters ws behind front rest c.in-Some.field-0-0.now c.in-Some.ensures.cases.0 i.1 (parted behind front c.delimiter_at-delimiter.ensures) in
-    omega (arith, i.4, ap fewest later, fewest_tail (delimiter_in front) (parameters_of rest).delimiters, c.undelimited_in.ensures)
+    record { fits = omega (arith, i.4, ap fewest later, fewest_tail (delimiter_in front) (parameters_of rest).delimiters, c.undelimited_in.ensures) }
 
 pub returns-in_err-counted : goal.returns-in_err-counted
 returns-in_err-counted g c =

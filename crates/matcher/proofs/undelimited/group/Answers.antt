@@ -1,4 +1,4 @@
-use Rattle.std.proofs.Common.{◌≡◌, ℕ, ◌+◌, ◌-◌, Bool, [], ◌∷◌, ◌++◌, take, drop, Some, None, vec_items, vec_len, sym, ap, ◌∙◌, subst, arith}
+use Rattle.std.proofs.Common.{rules, ◌≡◌, ℕ, ◌+◌, ◌-◌, Bool, [], ◌∷◌, ◌++◌, take, drop, Some, None, vec_items, vec_len, sym, ap, ◌∙◌, subst, arith}
 use Rattle.std.proofs.lemmas.List.{length_push}
 use Rattle.std.proofs.lemmas.Result.{err_from_is_err_and}
 use Rattle.names.specs.Spelled.{listed}
@@ -6,15 +6,17 @@ use Rattle.matching.specs.Braces.{deeper, is_par}
 use Rattle.matching.specs.Dividing.{Permitted}
 use Rattle.matching.specs.Matching.{on, in_group, ended, feed}
 use Rattle.matching.proofs.Valid.{permitted_none}
+use Rattle.matching.specs.declared.refusal.MatcherRefusal.{MatcherRefusal}
+use Rattle.calls.specs.declared.fault.MatcherCause.TheVariants.{Matcher}
 use Rattle.matcher.specs.Hindering.{hindrance}
 use Rattle.matcher.proofs.Buffers.{long_from, none_from, all_before, pushed_from, pushed_before}
-use Rattle.matcher.proofs.Going.{stay, onward, turned, fails, refuses, read, unread}
+use Rattle.matcher.proofs.Going.{stay, onward, turned, fails, hinders, read, unread}
 use Rattle.matcher.proofs.Hindering.{by, unhindered, group_closes, group_deeper, group_on, group_permitted}
 use Rattle.matcher.proofs.undelimited.group.Goals as goal
 
 pub group-init : goal.group-init
 group-init g c =
-    let v = c.args.gathered.now.tokens in
+    let v = c.args.gathered.now.held in
     let none = none_from v c.len-start.result c.len-start.ensures in
     let long = c.args.terms.long in (
       (λ p u. turned _ _ _ _ long (stay _ _ _ _ long (on (in_group p [])) _ _) (ap (λ xs. on (in_group p xs)) (sym none))),
@@ -27,7 +29,7 @@ group-init g c =
 
 pub group-preserved : goal.group-preserved
 group-preserved g c =
-    let v = c.group.gathered.tokens in
+    let v = c.group.gathered.held in
     let w = c.push_reserved.new.self in
     let start = c.len-start.result in
     let inner = drop start (vec_items v) in
@@ -38,7 +40,7 @@ group-preserved g c =
     let i = c.group.invariant in
     let deep = i.1 in
     let to = sym c.in-Some.ensures in
-    let free : hindrance long (is_par t) n ≡ None = ap (λ (b : Bool). hindrance long b n) (sym c.is_par.ensures) ∙ sym c.in_default-hindrance.ensures in
+    let free : hindrance long (is_par t) n ≡ None = search rules in
     let ok = unhindered long (is_par t) n free in
     let e = pushed_from v w t start i.4 c.push_reserved.ensures.items in
     let k = c.in_ok-token.ensures in (
@@ -60,12 +62,12 @@ returns-in_err-token g c =
     record {
       goes = λ q u. rw (p.1, p.2) (fails _ _ _ _ _ (i.0 q u) (unread _ _ _ _ _ (in_group q _) _ _ (listed c.needed.new.names) c.needed.new.source c.in_err-token.field-0.0 t.takes t.reads));
       fits = rw p.1 tt;
-      kept = ap (λ (k : ℕ). take k (vec_items c.group.gathered.tokens)) (sym c.len-start.ensures) ∙ i.5;
+      kept = ap (λ (k : ℕ). take k (vec_items c.group.gathered.held)) (sym c.len-start.ensures) ∙ i.5;
     }
 
 pub returns-in_default : goal.returns-in_default
 returns-in_default g c =
-    let v = c.group.gathered.tokens in
+    let v = c.group.gathered.held in
     let start = c.len-start.result in
     let inner = drop start (vec_items v) in
     let t = c.in_ok-token.token in
@@ -74,18 +76,18 @@ returns-in_default g c =
     let k = c.in_ok-token.ensures in
     record {
       goes = λ p u.
-          let f : feed long (in_group p inner) t ≡ ended p (drop (vec_len c.args.gathered.now.tokens) (vec_items v)) (vec_len v - vec_len c.args.gathered.now.tokens + 2) =
+          let f : feed long (in_group p inner) t ≡ ended p (drop (vec_len c.args.gathered.now.held) (vec_items v)) (vec_len v - vec_len c.args.gathered.now.held + 2) =
           group_closes long p inner c.group.depth t i.1 (sym c.in_default.ensures)
           ∙ ap (λ (n : ℕ). ended p inner (n + 2)) (long_from v start)
           ∙ ap (λ (n : ℕ). ended p (drop n (vec_items v)) (vec_len v - n + 2)) c.len-start.ensures in
           onward _ _ _ _ long (i.0 p u) (turned _ _ _ _ long (read _ _ _ _ long (in_group p inner) _ _ (listed c.needed.new.names) c.needed.new.source t k.takes k.reads) f);
       fits = omega (arith, c.len-start.ensures, i.3);
-      kept = ap (λ (k : ℕ). take k (vec_items c.group.gathered.tokens)) (sym c.len-start.ensures) ∙ i.5;
+      kept = ap (λ (k : ℕ). take k (vec_items c.group.gathered.held)) (sym c.len-start.ensures) ∙ i.5;
     }
 
-pub returns-in-Some-hindrance : goal.returns-in-Some-hindrance
-returns-in-Some-hindrance g c =
-    let v = c.group.gathered.tokens in
+pub returns-in_err-map_err : goal.returns-in_err-map_err
+returns-in_err-map_err g c =
+    let v = c.group.gathered.held in
     let start = c.len-start.result in
     let inner = drop start (vec_items v) in
     let t = c.in_ok-token.token in
@@ -94,13 +96,13 @@ returns-in-Some-hindrance g c =
     let n : ℕ = c.args.terms.counted + (c.len.result - start + 3 + m) + c.args.terms.few in
     let i = c.group.invariant in
     let to = sym c.in-Some.ensures in
-    let r = c.in-Some-hindrance.refusal in
-    let bad : hindrance long (is_par t) n ≡ Some r = ap (λ (b : Bool). hindrance long b n) (sym c.is_par.ensures) ∙ sym c.in-Some-hindrance.ensures in
+    let bad : (r : MatcherRefusal) × (hindrance long (is_par t) n ≡ Some r) × (c.in_err-map_err.field-0.0 ≡ Matcher r (g.S.Source.place c.needed.new.source)) = search rules in
     let k = c.in_ok-token.ensures in
+    let q = err_from_is_err_and c.from_residual-in_err-map_err.result c.from_residual-in_err-map_err.ensures.1 in
     record {
       goes = λ p u.
-          let f = group_on long p inner c.group.depth t i.1 m n to i.2 (omega (arith, u.0, u.1, long_from v start, length_push inner t, c.len.ensures)) ∙ ap (by (on (in_group p (inner ++ t ∷ [])))) bad in
-          rw c.place.ensures (refuses _ _ _ _ long r (onward _ _ _ _ long (i.0 p u) (read _ _ _ _ long (in_group p inner) _ _ (listed c.needed.new.names) c.needed.new.source t k.takes k.reads)) f);
-      fits = tt;
-      kept = ap (λ (k : ℕ). take k (vec_items c.group.gathered.tokens)) (sym c.len-start.ensures) ∙ i.5;
+          let f = group_on long p inner c.group.depth t i.1 m n to i.2 (omega (arith, u.0, u.1, long_from v start, length_push inner t, c.len.ensures)) in
+          rw (q.1, q.2) (hinders _ _ _ _ long _ bad (onward _ _ _ _ long (i.0 p u) (read _ _ _ _ long (in_group p inner) _ _ (listed c.needed.new.names) c.needed.new.source t k.takes k.reads)) f);
+      fits = rw q.1 tt;
+      kept = ap (λ (k : ℕ). take k (vec_items c.group.gathered.held)) (sym c.len-start.ensures) ∙ i.5;
     }

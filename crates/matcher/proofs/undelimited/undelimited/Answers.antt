@@ -1,12 +1,14 @@
-use Rattle.std.proofs.Common.{◌≡◌, ℕ, ◌+◌, ◌-◌, Bool, true, false, cond, List, [], ◌∷◌, ◌++◌, drop, Some, None, vec_items, vec_len, sym, refl, ap, ◌∙◌, arith}
+use Rattle.std.proofs.Common.{rules, ◌≡◌, ℕ, ◌+◌, ◌-◌, Bool, true, false, cond, List, [], ◌∷◌, ◌++◌, drop, Some, None, vec_items, vec_len, sym, refl, ap, ◌∙◌, arith}
 use Rattle.std.proofs.lemmas.Result.{err_from_is_err_and}
 use Rattle.tokens.specs.declared.token.Token.{Token}
+use Rattle.matching.specs.declared.refusal.MatcherRefusal.{MatcherRefusal}
 use Rattle.matching.specs.declared.refusal.MatcherRefusal.TheVariants.{Unmatched}
 use Rattle.matching.specs.Braces.{is_open, is_par}
 use Rattle.matching.specs.Matching.{ended, fewest}
+use Rattle.calls.specs.declared.fault.MatcherCause.TheVariants.{Matcher}
 use Rattle.matcher.specs.Hindering.{hindrance}
 use Rattle.matcher.proofs.Buffers.{kept_longer, none_from, all_before, pushed_from, pushed_before}
-use Rattle.matcher.proofs.Going.{onward, turned, fails, refuses}
+use Rattle.matcher.proofs.Going.{onward, turned, fails, refuses, hinders}
 use Rattle.matcher.proofs.Hindering.{by, unhindered}
 use Rattle.matcher.proofs.Skipping.{skip_closes, skip_next}
 use Rattle.matcher.proofs.undelimited.undelimited.Goals as goal
@@ -21,7 +23,7 @@ returns-in_err-token g c =
     record {
       goes = λ p u. rw (e.1, e.2) (t.goes c.args.terms.long p);
       fits = rw e.1 tt;
-      kept = all_before c.args.gathered.now.tokens _ refl;
+      kept = all_before c.args.gathered.now.held _ refl;
     }
 
 pub returns-then-is_close : goal.returns-then-is_close
@@ -31,32 +33,32 @@ returns-then-is_close g c =
     record {
       goes = λ p u. rw c.place.ensures (refuses _ _ _ _ long Unmatched (k.goes long p) (skip_closes long p c.in_ok-token.token k.plain (sym c.if-is_close.ensures)));
       fits = tt;
-      kept = all_before c.args.gathered.now.tokens _ refl;
+      kept = all_before c.args.gathered.now.held _ refl;
     }
 
-pub returns-in-Some : goal.returns-in-Some
-returns-in-Some g c =
+pub returns-in_err-map_err : goal.returns-in_err-map_err
+returns-in_err-map_err g c =
     let k = c.in_ok-token.ensures in
     let long = c.args.terms.long in
     let t = c.in_ok-token.token in
     let n : ℕ = c.args.terms.counted + c.least.result + c.args.terms.few in
-    let r = c.in-Some.refusal in
-    let bad : hindrance long (is_par t) n ≡ Some r = ap (λ (b : Bool). hindrance long b n) (sym c.is_par.ensures) ∙ sym c.in-Some.ensures in
+    let bad : (r : MatcherRefusal) × (hindrance long (is_par t) n ≡ Some r) × (c.in_err-map_err.field-0.0 ≡ Matcher r (g.S.Source.place c.unblanked.new.source)) = search rules in
+    let e = err_from_is_err_and c.from_residual-in_err-map_err.result c.from_residual-in_err-map_err.ensures.1 in
     record {
-      goes = λ p u. rw c.place-in-Some.ensures (refuses _ _ _ _ long r (k.goes long p) (skip_next long p t k.plain (sym c.if-is_close.ensures) (is_open t) refl n (counts _ _ (is_open t) c.least.result p.counted (fewest p.later) u.0 u.1 c.least.ensures.value) ∙ ap (by _) bad));
-      fits = tt;
-      kept = all_before c.args.gathered.now.tokens _ refl;
+      goes = λ p u. rw (e.1, e.2) (hinders _ _ _ _ long _ bad (k.goes long p) (skip_next long p t k.plain (sym c.if-is_close.ensures) (is_open t) refl n (counts _ _ (is_open t) c.least.result p.counted (fewest p.later) u.0 u.1 c.least.ensures.value)));
+      fits = rw e.1 tt;
+      kept = all_before c.args.gathered.now.held _ refl;
     }
 
 pub returns : goal.returns
 returns g c =
     let k = c.in_ok-token.ensures in
-    let v = c.args.gathered.now.tokens in
+    let v = c.args.gathered.now.held in
     let w = c.push_reserved.new.self in
     let long = c.args.terms.long in
     let t = c.in_ok-token.token in
     let n : ℕ = c.args.terms.counted + c.least.result + c.args.terms.few in
-    let free : hindrance long (is_par t) n ≡ None = ap (λ (b : Bool). hindrance long b n) (sym c.is_par.ensures) ∙ sym c.in_default.ensures in
+    let free : hindrance long (is_par t) n ≡ None = search rules in
     let shut : is_open t ≡ false = sym c.if-is_open.ensures in
     let one : c.least.result ≡ 1 = c.least.ensures.value ∙ ap (λ (b : Bool). cond b 2 1) shut in
     let ok = unhindered long (is_par t) n free in
@@ -71,12 +73,12 @@ pub returns-then-is_open : goal.returns-then-is_open
 returns-then-is_open g c =
     let k = c.in_ok-token.ensures in
     let m = c.in_ok-group.ensures in
-    let v = c.args.gathered.now.tokens in
-    let w = c.group.new.gathered.tokens in
+    let v = c.args.gathered.now.held in
+    let w = c.group.new.gathered.held in
     let long = c.args.terms.long in
     let t = c.in_ok-token.token in
     let n : ℕ = c.args.terms.counted + c.least.result + c.args.terms.few in
-    let free : hindrance long (is_par t) n ≡ None = ap (λ (b : Bool). hindrance long b n) (sym c.is_par.ensures) ∙ sym c.in_default.ensures in
+    let free : hindrance long (is_par t) n ≡ None = search rules in
     let shut : is_open t ≡ true = sym c.if-is_open.ensures in
     let two : c.least.result ≡ 2 = c.least.ensures.value ∙ ap (λ (b : Bool). cond b 2 1) shut in
     let e : vec_len w - vec_len v + 2 ≡ c.len.result - c.len-start.result + 2 = omega (arith, c.len.ensures, c.len-start.ensures) in
@@ -95,7 +97,7 @@ returns-in_err-group g c =
     let long = c.args.terms.long in
     let t = c.in_ok-token.token in
     let n : ℕ = c.args.terms.counted + c.least.result + c.args.terms.few in
-    let free : hindrance long (is_par t) n ≡ None = ap (λ (b : Bool). hindrance long b n) (sym c.is_par.ensures) ∙ sym c.in_default.ensures in
+    let free : hindrance long (is_par t) n ≡ None = search rules in
     let shut : is_open t ≡ true = sym c.if-is_open.ensures in
     let two : c.least.result ≡ 2 = c.least.ensures.value ∙ ap (λ (b : Bool). cond b 2 1) shut in
     let e = err_from_is_err_and c.from_residual-in_err-group.result c.from_residual-in_err-group.ensures.1 in

@@ -20,15 +20,15 @@ pub returns-in_err-span : goal.returns-in_err-span
 returns-in_err-span c =
     let a = c.args.self.now in
     let past = c.in_err-span.ensures.lookup.3 in
-    rw c.from_residual.ensures (sym (parts_nth (vec_items a.gathered.tokens) (vec_items a.spans) c.args.n ∙ ap (option_map (part_of (vec_items a.gathered.tokens))) (slice_get_past (vec_items a.spans) c.args.n (omega (arith, past, a.spans.ok.0, c.deref.ensures.len)))))
+    rw c.from_residual.ensures (sym (parts_nth (vec_items a.gathered.held) (vec_items a.spans.held) c.args.n ∙ ap (option_map (part_of (vec_items a.gathered.held))) (slice_get_past (vec_items a.spans.held) c.args.n (omega (arith, past, a.spans.held.ok.0, c.deref.ensures.len)))))
 
 pub returns : goal.returns
 returns c =
     let a = c.args.self.now in
     let s = c.in_ok-span.span.now in
     let f = c.in_ok-span.ensures.lookup in
-    let e = found_at (vec_items a.spans) c.deref.result.now c.args.n s c.deref.ensures.value f.3.0 f.1 in
-    let w = within_nth (vec_len a.gathered.tokens) (vec_items a.spans) c.args.n s a.within e in
+    let e = found_at (vec_items a.spans.held) c.deref.result.now c.args.n s c.deref.ensures.value f.3.0 f.1 in
+    let w = within_nth (vec_len a.gathered.held) (vec_items a.spans.held) c.args.n s a.within e in
     let h = c.get-2.ensures.lookup in
-    got c.get-2.result (λ x. x.now) _ _ (part_of (vec_items a.gathered.tokens) s) (λ x p. p.2 ∙ ap (λ (ts : List Token). part_of ts s) c.as_slice.ensures.value) h.0 (h.1 (w.0, omega (arith, w.1, c.as_slice.ensures.len)))
-    ∙ sym (parts_nth (vec_items a.gathered.tokens) (vec_items a.spans) c.args.n ∙ ap (option_map (part_of (vec_items a.gathered.tokens))) e)
+    got c.get-2.result (λ x. x.now) _ _ (part_of (vec_items a.gathered.held) s) (λ x p. p.2 ∙ ap (λ (ts : List Token). part_of ts s) c.as_slice.ensures.value) h.0 (h.1 (w.0, omega (arith, w.1, c.as_slice.ensures.len)))
+    ∙ sym (parts_nth (vec_items a.gathered.held) (vec_items a.spans.held) c.args.n ∙ ap (option_map (part_of (vec_items a.gathered.held))) e)
