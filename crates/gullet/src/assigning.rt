@@ -34,8 +34,8 @@ fn copy_meaning(book: &mut Book, name: u16, scope: Scope, token: Read) -> Result
 impl<S: Source> Gullet<S> {
     // The name behind \def, \gdef or \let.
     pub(crate) fn named_target(&mut self) -> Result<u16, GulletFault>
-        ensures finds { Finds S.Source.ahead S.Source.place self.old self.new result (λ p d. placed p (target_of d)) named_ahead }
-        ensures onward { ReadsOn S.Source.reads self.old self.new }
+        ensures finds { Finds self.old self.new result (λ p d. placed p (target_of d)) named_ahead }
+        ensures onward { ReadsOn self.old self.new }
     {
         let name = fed(&mut self.source, &self.book, &mut self.names, &Named, ())?;
         name.ok_or_else(|| self.refusal(GulletRefusal::BadDefinition))
@@ -43,7 +43,7 @@ impl<S: Source> Gullet<S> {
 
     // A name means what a token means now, and no task is under way any more.
     fn give_alike(&mut self, name: u16, scope: Scope, token: Read) -> Result<Answer, GulletFault>
-        ensures does { Does S.Source.ahead S.Source.place self.old self.new result (λ s r. let_as s name scope token r) }
+        ensures does { Does self.old self.new result (λ s r. let_as s name scope token r) }
         ensures below { self.new.source.below ≡ self.old.source.below }
     {
         let outcome = copy_meaning(&mut self.book, name, scope, token);
@@ -54,8 +54,8 @@ impl<S: Source> Gullet<S> {
 
     // \let behind its name.
     fn let_token(&mut self, name: u16, scope: Scope) -> Result<Answer, GulletFault>
-        ensures does { Does S.Source.ahead S.Source.place self.old self.new result (λ s r. let_named s r name scope) }
-        ensures onward { ReadsOn S.Source.reads self.old self.new }
+        ensures does { Does self.old self.new result (λ s r. let_named s r name scope) }
+        ensures onward { ReadsOn self.old self.new }
     {
         let token = fed(
             &mut self.source,
@@ -69,8 +69,8 @@ impl<S: Source> Gullet<S> {
 
     // \let.
     pub(crate) fn let_alike(&mut self, scope: Scope) -> Result<Answer, GulletFault>
-        ensures does { Does S.Source.ahead S.Source.place self.old self.new result (λ s r. letting s r scope) }
-        ensures onward { ReadsOn S.Source.reads self.old self.new }
+        ensures does { Does self.old self.new result (λ s r. letting s r scope) }
+        ensures onward { ReadsOn self.old self.new }
     {
         let name = self.named_target()?;
         self.let_token(name, scope)

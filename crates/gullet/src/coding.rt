@@ -21,7 +21,7 @@ impl<S: Source> Gullet<S> {
         number: u8,
         scope: Scope,
     ) -> Result<Answer, GulletFault>
-        ensures does { Does S.Source.ahead S.Source.place self.old self.new result (λ s r. recoded_as s code scope r s.stands (category_of number)) }
+        ensures does { Does self.old self.new result (λ s r. recoded_as s code scope r s.stands (category_of number)) }
         ensures below { self.new.source.below ≡ self.old.source.below }
     {
         let Ok(category) = Category::try_from(number) else {
@@ -42,7 +42,7 @@ impl<S: Source> Gullet<S> {
         token: Read,
         scope: Scope,
     ) -> Result<Answer, GulletFault>
-        ensures does { Does S.Source.ahead S.Source.place self.old self.new result (λ s r. recoded_by s code scope (Some (number, token)) r) }
+        ensures does { Does self.old self.new result (λ s r. recoded_by s code scope (Some (number, token)) r) }
         ensures below { self.new.source.below ≡ self.old.source.below }
     {
         if is_space(&self.book, token) {
@@ -58,8 +58,8 @@ impl<S: Source> Gullet<S> {
 
     // \catcode behind its character: a number follows.
     pub(crate) fn recode_byte(&mut self, code: u8, scope: Scope) -> Result<Answer, GulletFault>
-        ensures does { Does S.Source.ahead S.Source.place self.old self.new result (λ s r. recoding_of s scope r (Some code)) }
-        ensures onward { ReadsOn S.Source.reads self.old self.new }
+        ensures does { Does self.old self.new result (λ s r. recoding_of s scope r (Some code)) }
+        ensures onward { ReadsOn self.old self.new }
     {
         let found = fed(
             &mut self.source,
@@ -74,8 +74,8 @@ impl<S: Source> Gullet<S> {
 
     // \catcode behind the token that its quote is for.
     fn recode_token(&mut self, token: Read, scope: Scope) -> Result<Answer, GulletFault>
-        ensures does { Does S.Source.ahead S.Source.place self.old self.new result (λ s r. recoding_by s scope (Some token) r) }
-        ensures onward { ReadsOn S.Source.reads self.old self.new }
+        ensures does { Does self.old self.new result (λ s r. recoding_by s scope (Some token) r) }
+        ensures onward { ReadsOn self.old self.new }
     {
         let found = byte_of(&self.names, token);
         let code = found.ok_or_else(|| self.refusal(GulletRefusal::BadCatcode))?;
@@ -84,8 +84,8 @@ impl<S: Source> Gullet<S> {
 
     // \catcode.
     pub(crate) fn recode(&mut self, scope: Scope) -> Result<Answer, GulletFault>
-        ensures does { Does S.Source.ahead S.Source.place self.old self.new result (λ s r. recoding s r scope) }
-        ensures onward { ReadsOn S.Source.reads self.old self.new }
+        ensures does { Does self.old self.new result (λ s r. recoding s r scope) }
+        ensures onward { ReadsOn self.old self.new }
     {
         let found = fed(
             &mut self.source,

@@ -11,7 +11,7 @@ use tokens::{Answer, Token as Read};
 impl<S: Source> Gullet<S> {
     // An expansion is complete: its result is put back, and in front of it what waits for it.
     pub(crate) fn complete(&mut self, res: &[Read]) -> Result<Answer, GulletFault>
-        ensures does { Does S.Source.ahead S.Source.place self.old self.new result (λ s r. completed s r s.conditionals res.now) }
+        ensures does { Does self.old self.new result (λ s r. completed s r s.conditionals res.now) }
         ensures below { self.new.source.below ≡ self.old.source.below }
     {
         self.waiting.clear();

@@ -19,7 +19,7 @@ use tokens::Answer;
 impl<S: Source> Gullet<S> {
     // A refusal of the gullet itself, where reading stands, outside of matching, defining and skipping.
     pub(crate) fn refusal(&self, refusal: GulletRefusal) -> GulletFault
-        ensures { result ≡ fault_at (place_of S.Source.place self.now) (record { cause = gullet refusal; status = Normal }) }
+        ensures { result ≡ fault_at (place_of self.now) (record { cause = gullet refusal; status = Normal }) }
     {
         GulletFault {
             cause: Cause::Gullet(refusal, self.source.place()),
@@ -29,7 +29,7 @@ impl<S: Source> Gullet<S> {
 
     // An expansion is complete with nothing for its result: then the open conditionals change.
     pub(crate) fn conclude(&mut self, turn: Turn) -> Result<Answer, GulletFault>
-        ensures does { Does S.Source.ahead S.Source.place self.old self.new result (λ s r. completed s r (turned turn s.conditionals) []) }
+        ensures does { Does self.old self.new result (λ s r. completed s r (turned turn s.conditionals) []) }
         ensures below { self.new.source.below ≡ self.old.source.below }
     {
         let answer = self.complete(&[])?;
@@ -39,8 +39,8 @@ impl<S: Source> Gullet<S> {
 
     // A \fi closes the innermost conditional, if one is open.
     pub(crate) fn end_conditional(&mut self) -> Result<Answer, GulletFault>
-        ensures does { Does S.Source.ahead S.Source.place self.old self.new result (λ s r. at_fi_of s r s.conditionals) }
-        ensures onward { ReadsOn S.Source.reads self.old self.new }
+        ensures does { Does self.old self.new result (λ s r. at_fi_of s r s.conditionals) }
+        ensures onward { ReadsOn self.old self.new }
     {
         if self.conditionals.is_empty() {
             return Err(self.refusal(GulletRefusal::Misplaced));

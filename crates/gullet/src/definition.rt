@@ -25,7 +25,7 @@ fn drafted<S: Source>(
     book: &Book,
     draft: &mut Draft,
 ) -> Result<DefinitionEnd, PileFault>
-    ensures { Drives S.Source.ahead S.Source.place S.Source.reads categories.now (listed names.old) (listed names.new) source.old source.new (defined_of result draft.new) (definition_feed (meanings_of (book_of book.now))) (in_text [] 0) }
+    ensures { Drives S.Source categories.now (listed names.old) (listed names.new) source.old source.new (defined_of result draft.new) (definition_feed (meanings_of (book_of book.now))) (in_text [] 0) }
 {
     draft.parameters.clear();
     let mut stage = Stage::InText { count: 0 };

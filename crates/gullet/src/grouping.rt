@@ -18,7 +18,7 @@ use tokens::{Answer, GroupKind};
 impl<S: Source> Gullet<S> {
     // A refusal by the book, at the present place: `refusal` with another cause, for which a trait would be longer.
     pub(crate) fn refused_by_book(&self, fault: BookFault) -> GulletFault
-        ensures { result ≡ fault_at (place_of S.Source.place self.now) (record { cause = book fault; status = Normal }) }
+        ensures { result ≡ fault_at (place_of self.now) (record { cause = book fault; status = Normal }) }
     {
         GulletFault {
             cause: Cause::Book(fault, self.source.place()),
@@ -28,7 +28,7 @@ impl<S: Source> Gullet<S> {
 
     // Opens a group, or is refused by the book.
     pub(crate) fn open_group(&mut self, kind: GroupKind) -> Result<Answer, GulletFault>
-        ensures does { Does S.Source.ahead S.Source.place self.old self.new result (λ s r. grouped s r (Opened kind) (after_open kind s.book) (open_answer s.book)) }
+        ensures does { Does self.old self.new result (λ s r. grouped s r (Opened kind) (after_open kind s.book) (open_answer s.book)) }
         ensures below { self.new.source.below ≡ self.old.source.below }
     {
         self.book
@@ -39,7 +39,7 @@ impl<S: Source> Gullet<S> {
 
     // Closes the innermost group, or is refused by the book.
     pub(crate) fn close_group(&mut self, kind: GroupKind) -> Result<Answer, GulletFault>
-        ensures does { Does S.Source.ahead S.Source.place self.old self.new result (λ s r. grouped s r (Closed kind) (after_close kind s.book) (close_answer kind s.book)) }
+        ensures does { Does self.old self.new result (λ s r. grouped s r (Closed kind) (after_close kind s.book) (close_answer kind s.book)) }
         ensures below { self.new.source.below ≡ self.old.source.below }
     {
         self.book

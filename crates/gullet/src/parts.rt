@@ -1,4 +1,4 @@
-ghost use Rattle.std.specs.Prelude.{◌≡◌, ◌≤◌, true, vec_capacity};
+ghost use Rattle.std.specs.Prelude.{◌≡◌, ◌+◌, ◌^◌, ◌<◌, ◌≤◌, true, vec_capacity};
 ghost use Rattle.gullet.specs.Idle.{is_normal};
 
 use crate::draft::Draft;
@@ -9,11 +9,12 @@ use matcher::Arguments;
 use names::Names;
 use pending::{Conditionals, Tasks};
 use piles::PutBack;
+use sources::Source;
 use tokens::Token;
 
 // A gullet over any source, with its own put-back on top. Between calls the scanning status is normal.
 #[derive(Drop)]
-pub struct Gullet<S> {
+pub struct Gullet<S: Source> {
     pub(crate) source: PutBack<S>,
     pub(crate) names: Names,
     pub(crate) book: Book,
@@ -29,4 +30,6 @@ pub struct Gullet<S> {
     pub(crate) waiting: Vec<Token>,
     ghost idle: { is_normal scan.status ≡ true },
     ghost room: { 64 ≤ vec_capacity waiting },
+    // the tokens ahead can be counted in 64 bits
+    ghost countable: { 4096 + S.Source.most < 2 ^ 64 },
 }

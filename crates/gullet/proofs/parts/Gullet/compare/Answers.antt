@@ -30,7 +30,7 @@ returns-in_err-one-clause-does g c =
 
 pub returns-clause-does : goal.returns-clause-does
 returns-clause-does g c =
-    let s = state_of g.S.Source.ahead c.args.self.now in
+    let s = state_of c.args.self.now in
     let e = c.in_ok-one.ensures in
     let two : Token × Token = (c.in_ok-one.one, c.in_ok-one.other) in
     let mid = state (position_of g.S.Source.ahead c.fed.new.names c.fed.new.source) s.book s.conditionals s.tasks in
