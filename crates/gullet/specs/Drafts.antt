@@ -18,10 +18,10 @@ use Rattle.gullet.specs.declared.draft.DefinitionEnd.{DefinitionEnd}
 use Rattle.gullet.specs.declared.draft.DefinitionEnd.TheVariants.{Defined, Broken, TooLong}
 
 abbrev pub view : Stage → Draft → Definition
-view (InText k) d = in_text (vec_items d.parameters) k
-view (HashInText k) d = hash_in_text (vec_items d.parameters) k
-view (InBody k n) d = in_body (vec_items d.parameters) k (vec_items d.body) n
-view (HashInBody k n) d = hash_in_body (vec_items d.parameters) k (vec_items d.body) n
+view (InText k) d = in_text (vec_items d.parameters.held) k
+view (HashInText k) d = hash_in_text (vec_items d.parameters.held) k
+view (InBody k n) d = in_body (vec_items d.parameters.held) k (vec_items d.body.held) n
+view (HashInBody k n) d = hash_in_body (vec_items d.parameters.held) k (vec_items d.body.held) n
 
 abbrev pub depth_of : Stage → ℕ
 depth_of (InText k) = 0
@@ -30,7 +30,7 @@ depth_of (InBody k n) = n
 depth_of (HashInBody k n) = n
 
 abbrev pub end_of : DefinitionEnd → Draft → model.Defined
-end_of Defined d = defines (vec_items d.parameters) (vec_items d.body)
+end_of Defined d = defines (vec_items d.parameters.held) (vec_items d.body.held)
 end_of Broken d = broken
 end_of TooLong d = too_long
 

@@ -14,10 +14,10 @@ impl<S: Source> Gullet<S> {
         ensures does { Does self.old self.new result (λ s r. completed s r s.conditionals res.now) }
         ensures below { self.new.source.below ≡ self.old.source.below }
     {
-        self.waiting.clear();
+        self.waiting.held.clear();
         // at most 64 wait, for which there is room
-        let _ = self.tasks.copy_waiting(&mut self.waiting);
-        put_behind(&mut self.source, &self.waiting, res)?;
+        let _ = self.tasks.copy_waiting(&mut self.waiting.held);
+        put_behind(&mut self.source, &self.waiting.held, res)?;
         self.tasks.end_waiting();
         Ok(Answer::Working)
     }

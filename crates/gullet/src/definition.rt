@@ -27,7 +27,7 @@ fn drafted<S: Source>(
 ) -> Result<DefinitionEnd, PileFault>
     ensures { Drives S.Source categories.now (listed names.old) (listed names.new) source.old source.new (defined_of result draft.new) (definition_feed (meanings_of (book_of book.now))) (in_text [] 0) }
 {
-    draft.parameters.clear();
+    draft.parameters.held.clear();
     let mut stage = Stage::InText { count: 0 };
     'tokens: loop {
         let token = needed(source, categories, names)?;

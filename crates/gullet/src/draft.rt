@@ -1,5 +1,6 @@
-ghost use Rattle.std.specs.Prelude.{◌≤◌, vec_len, vec_capacity};
+ghost use Rattle.std.specs.Prelude.{◌≤◌, vec_len};
 
+use buffers::Buffer;
 use std::alloc::{AllocError, Global};
 use tokens::{BodyWord, ParameterWord};
 
@@ -9,11 +10,9 @@ pub(crate) const WORDS_LIMIT: usize = 2_048;
 // The words of a definition that is being read. All memory is taken at first.
 #[derive(Drop)]
 pub(crate) struct Draft {
-    pub(crate) parameters: Vec<ParameterWord>,
-    pub(crate) body: Vec<BodyWord>,
-    ghost room: { 2048 ≤ vec_capacity parameters },
-    ghost places: { 2048 ≤ vec_capacity body },
-    ghost few: { vec_len body ≤ 2048 },
+    pub(crate) parameters: Buffer<ParameterWord, WORDS_LIMIT>,
+    pub(crate) body: Buffer<BodyWord, WORDS_LIMIT>,
+    ghost few: { vec_len body.held ≤ 2048 },
 }
 
 // Where the reading of a definition is: in the parameter text or the body, or behind a character of category 6 there,
@@ -36,8 +35,9 @@ pub(crate) enum DefinitionEnd {
 
 impl Draft {
     pub(crate) fn new(heap: Global) -> Result<Draft, AllocError> {
-        let parameters = Vec::with_capacity(heap, WORDS_LIMIT)?;
-        let body = Vec::with_capacity(heap, WORDS_LIMIT)?;
-        Ok(Draft { parameters, body })
+        Ok(Draft {
+            parameters: Buffer::new(heap)?,
+            body: Buffer::new(heap)?,
+        })
     }
 }

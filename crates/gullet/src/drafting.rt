@@ -16,13 +16,13 @@ use tokens::{BodyWord, ParameterWord, Token};
 impl Draft {
     // One word more in the parameter text, which then has so many parameters.
     fn more_text(&mut self, word: ParameterWord, count: u8) -> ControlFlow<DefinitionEnd, Stage>
-        ensures moves { moved result self.new ≡ room (length self.old.parameters.items) (in_text (self.old.parameters.items ++ word ∷ []) count) }
-        ensures within { Within depth_of (vec_len self.new.body) (meant result) }
+        ensures moves { moved result self.new ≡ room (length self.old.parameters.held.items) (in_text (self.old.parameters.held.items ++ word ∷ []) count) }
+        ensures within { Within depth_of (vec_len self.new.body.held) (meant result) }
     {
-        if self.parameters.len() >= WORDS_LIMIT {
+        if self.parameters.held.len() >= WORDS_LIMIT {
             return ControlFlow::Break(DefinitionEnd::TooLong);
         }
-        self.parameters.push_reserved(word);
+        self.parameters.held.push_reserved(word);
         ControlFlow::Continue(Stage::InText { count })
     }
 
@@ -33,23 +33,23 @@ impl Draft {
         count: u8,
         depth: u64,
     ) -> ControlFlow<DefinitionEnd, Stage>
-        requires { depth ≤ vec_len self.old.body + 1 }
-        ensures moves { moved result self.new ≡ one_more self.old.parameters.items count self.old.body.items word depth }
-        ensures within { Within depth_of (vec_len self.new.body) (meant result) }
+        requires { depth ≤ vec_len self.old.body.held + 1 }
+        ensures moves { moved result self.new ≡ one_more self.old.parameters.held.items count self.old.body.held.items word depth }
+        ensures within { Within depth_of (vec_len self.new.body.held) (meant result) }
     {
-        if self.parameters.len() >= WORDS_LIMIT - self.body.len() {
+        if self.parameters.held.len() >= WORDS_LIMIT - self.body.held.len() {
             return ControlFlow::Break(DefinitionEnd::TooLong);
         }
-        self.body.push_reserved(word);
+        self.body.held.push_reserved(word);
         ControlFlow::Continue(Stage::InBody { count, depth })
     }
 
     fn in_text(&mut self, book: &Book, count: u8, token: Token) -> ControlFlow<DefinitionEnd, Stage>
-        ensures moves { moved result self.new ≡ definition_feed (meanings_of (book_of book.now)) (in_text self.old.parameters.items count) token }
-        ensures within { Within depth_of (vec_len self.new.body) (meant result) }
+        ensures moves { moved result self.new ≡ definition_feed (meanings_of (book_of book.now)) (in_text self.old.parameters.held.items count) token }
+        ensures within { Within depth_of (vec_len self.new.body.held) (meant result) }
     {
         if is_open(token) {
-            self.body.clear();
+            self.body.held.clear();
             return ControlFlow::Continue(Stage::InBody { count, depth: 0 });
         }
         if is_close(token) {
@@ -62,8 +62,8 @@ impl Draft {
     }
 
     fn hash_in_text(&mut self, count: u8, token: Token) -> ControlFlow<DefinitionEnd, Stage>
-        ensures moves { (f : Meanings) → moved result self.new ≡ definition_feed f (hash_in_text self.old.parameters.items count) token }
-        ensures within { Within depth_of (vec_len self.new.body) (meant result) }
+        ensures moves { (f : Meanings) → moved result self.new ≡ definition_feed f (hash_in_text self.old.parameters.held.items count) token }
+        ensures within { Within depth_of (vec_len self.new.body.held) (meant result) }
     {
         if count < 9 && is_digit(count + 1, token) {
             self.more_text(ParameterWord::Parameter, count + 1)
@@ -79,9 +79,9 @@ impl Draft {
         depth: u64,
         token: Token,
     ) -> ControlFlow<DefinitionEnd, Stage>
-        requires { depth ≤ vec_len self.old.body }
-        ensures moves { moved result self.new ≡ definition_feed (meanings_of (book_of book.now)) (in_body self.old.parameters.items count self.old.body.items depth) token }
-        ensures within { Within depth_of (vec_len self.new.body) (meant result) }
+        requires { depth ≤ vec_len self.old.body.held }
+        ensures moves { moved result self.new ≡ definition_feed (meanings_of (book_of book.now)) (in_body self.old.parameters.held.items count self.old.body.held.items depth) token }
+        ensures within { Within depth_of (vec_len self.new.body.held) (meant result) }
     {
         let word = BodyWord::Token(token);
         if is_open(token) {
@@ -106,9 +106,9 @@ impl Draft {
         depth: u64,
         token: Token,
     ) -> ControlFlow<DefinitionEnd, Stage>
-        requires { depth ≤ vec_len self.old.body }
-        ensures moves { moved result self.new ≡ definition_feed (meanings_of (book_of book.now)) (hash_in_body self.old.parameters.items count self.old.body.items depth) token }
-        ensures within { Within depth_of (vec_len self.new.body) (meant result) }
+        requires { depth ≤ vec_len self.old.body.held }
+        ensures moves { moved result self.new ≡ definition_feed (meanings_of (book_of book.now)) (hash_in_body self.old.parameters.held.items count self.old.body.held.items depth) token }
+        ensures within { Within depth_of (vec_len self.new.body.held) (meant result) }
     {
         if is_hash(book, token) {
             return self.more_body(BodyWord::Token(token), count, depth);
@@ -128,9 +128,9 @@ impl Draft {
         stage: Stage,
         token: Token,
     ) -> ControlFlow<DefinitionEnd, Stage>
-        requires { depth_of stage ≤ vec_len self.old.body }
+        requires { depth_of stage ≤ vec_len self.old.body.held }
         ensures moves { moved result self.new ≡ definition_feed (meanings_of (book_of book.now)) (view stage self.old) token }
-        ensures within { Within depth_of (vec_len self.new.body) (meant result) }
+        ensures within { Within depth_of (vec_len self.new.body.held) (meant result) }
     {
         match stage {
             Stage::InText { count } => self.in_text(book, count, token),

@@ -1,8 +1,9 @@
-ghost use Rattle.std.specs.Prelude.{◌≡◌, ◌+◌, ◌^◌, ◌<◌, ◌≤◌, true, vec_capacity};
+ghost use Rattle.std.specs.Prelude.{◌≡◌, ◌+◌, ◌^◌, ◌<◌, true};
 ghost use Rattle.gullet.specs.Idle.{is_normal};
 
 use crate::draft::Draft;
 use book::Book;
+use buffers::Buffer;
 use driving::Scan;
 use expanding::Expansion;
 use matcher::Arguments;
@@ -27,9 +28,8 @@ pub struct Gullet<S: Source> {
     // a definition that is being read
     pub(crate) draft: Draft,
     // tokens that are about to be put back in front of a result
-    pub(crate) waiting: Vec<Token>,
+    pub(crate) waiting: Buffer<Token, 64>,
     ghost idle: { is_normal scan.status ≡ true },
-    ghost room: { 64 ≤ vec_capacity waiting },
     // the tokens ahead can be counted in 64 bits
     ghost countable: { 4096 + S.Source.most < 2 ^ 64 },
 }

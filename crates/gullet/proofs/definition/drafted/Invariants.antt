@@ -16,7 +16,7 @@ invariant-tokens g l =
     ≡ drive (definition_feed (meanings_of (book_of l.book))) (on (in_text [] 0)) (standing (listed l.initial.names) (g.S.Source.ahead l.initial.source)) (stream l.categories (listed l.initial.names) (g.S.Source.ahead l.initial.source)))
     × ((y : g.row.S.Denot) → Reached (g.S.Source.reads l.categories) (definition_feed (meanings_of (book_of l.book))) (on (view l.stage l.draft)) (listed l.names) (stream l.categories (listed l.names) (g.S.Source.ahead l.source)) l.source y
     → Reached (g.S.Source.reads l.categories) (definition_feed (meanings_of (book_of l.book))) (on (in_text [] 0)) (listed l.initial.names) (stream l.categories (listed l.initial.names) (g.S.Source.ahead l.initial.source)) l.initial.source y)
-    × (depth_of l.stage ≤ vec_len l.draft.body)
+    × (depth_of l.stage ≤ vec_len l.draft.body.held)
 
 abbrev pub decreases-tokens : goal.decreases-tokens
 decreases-tokens g l = size (stream l.categories (listed l.names) (g.S.Source.ahead l.source))
