@@ -16,16 +16,16 @@ use crate::parts::Gullet;
 use book::{Book, BookFault, Plain};
 use rules::{GulletRefusal, Letting};
 use sources::Source;
-use tokens::{Answer, Entry, Scope, Token as Read};
+use tokens::{Answer, Entry, Scope, Token};
 
 // Gives a name what a token means now.
-fn copy_meaning(book: &mut Book, name: u16, scope: Scope, token: Read) -> Result<(), BookFault>
+fn copy_meaning(book: &mut Book, name: u16, scope: Scope, token: Token) -> Result<(), BookFault>
     ensures answer { result ≡ name_answer scope name (meaning (meanings_of (book_of book.old)) token) (book_of book.old) }
     ensures state { book_of book.new ≡ after_name scope name (meaning (meanings_of (book_of book.old)) token) (book_of book.old) }
 {
     match token {
-        Read::Name(other) => book.assign_alike(name, other, scope),
-        Read::Character(category, code) => {
+        Token::Name(other) => book.assign_alike(name, other, scope),
+        Token::Character(category, code) => {
             book.assign_meaning(name, Plain::Character(category, code), scope)
         }
     }
@@ -42,7 +42,7 @@ impl<S: Source> Gullet<S> {
     }
 
     // A name means what a token means now, and no task is under way any more.
-    fn give_alike(&mut self, name: u16, scope: Scope, token: Read) -> Result<Answer, GulletFault>
+    fn give_alike(&mut self, name: u16, scope: Scope, token: Token) -> Result<Answer, GulletFault>
         ensures does { Does self.old self.new result (λ s r. let_as s name scope token r) }
         ensures below { self.new.source.below ≡ self.old.source.below }
     {

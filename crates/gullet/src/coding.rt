@@ -11,11 +11,11 @@ use crate::recoding::{Numbers, Subjects, byte_of};
 use crate::telling::is_space;
 use rules::{GulletRefusal, Number, Subject};
 use sources::{PileFault, PileRefusal, Source};
-use tokens::{Answer, Category, Entry, Scope, Token as Read};
+use tokens::{Answer, Category, Entry, Scope, Token};
 
 impl<S: Source> Gullet<S> {
     // A code has the category of a number from now on, and no task is under way any more.
-    pub(crate) fn give_category(
+    fn give_category(
         &mut self,
         code: u8,
         number: u8,
@@ -35,11 +35,11 @@ impl<S: Source> Gullet<S> {
     }
 
     // The same, with the token behind the digits: a space is lost, and another is put back.
-    pub(crate) fn give_category_before(
+    fn give_category_before(
         &mut self,
         code: u8,
         number: u8,
-        token: Read,
+        token: Token,
         scope: Scope,
     ) -> Result<Answer, GulletFault>
         ensures does { Does self.old self.new result (λ s r. recoded_by s code scope (Some (number, token)) r) }
@@ -57,7 +57,7 @@ impl<S: Source> Gullet<S> {
     }
 
     // \catcode behind its character: a number follows.
-    pub(crate) fn recode_byte(&mut self, code: u8, scope: Scope) -> Result<Answer, GulletFault>
+    fn recode_byte(&mut self, code: u8, scope: Scope) -> Result<Answer, GulletFault>
         ensures does { Does self.old self.new result (λ s r. recoding_of s scope r (Some code)) }
         ensures onward { ReadsOn self.old self.new }
     {
@@ -73,7 +73,7 @@ impl<S: Source> Gullet<S> {
     }
 
     // \catcode behind the token that its quote is for.
-    fn recode_token(&mut self, token: Read, scope: Scope) -> Result<Answer, GulletFault>
+    fn recode_token(&mut self, token: Token, scope: Scope) -> Result<Answer, GulletFault>
         ensures does { Does self.old self.new result (λ s r. recoding_by s scope (Some token) r) }
         ensures onward { ReadsOn self.old self.new }
     {

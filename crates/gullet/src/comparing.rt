@@ -7,7 +7,7 @@ use crate::fault::GulletFault;
 use crate::feeding::fed;
 use crate::naming::Two;
 use crate::parts::Gullet;
-use crate::telling::{meaning_of, same_meaning};
+use crate::telling::meaning_of;
 use rules::GulletRefusal;
 use sources::Source;
 use tokens::Answer;
@@ -20,7 +20,7 @@ impl<S: Source> Gullet<S> {
         ensures onward { ReadsOn self.old self.new }
     {
         let (one, other) = fed(&mut self.source, &self.book, &mut self.names, &Two, None)?;
-        let truth = same_meaning(meaning_of(&self.book, one), meaning_of(&self.book, other));
+        let truth = meaning_of(&self.book, one) == meaning_of(&self.book, other);
         self.decide(truth)
     }
 

@@ -11,7 +11,6 @@ ghost use Rattle.gullet.specs.Turns.{turned};
 use crate::fault::{Cause, GulletFault};
 use crate::parts::Gullet;
 use crate::turn::{Turn, turn_to};
-use driving::Status;
 use rules::GulletRefusal;
 use sources::Source;
 use tokens::Answer;
@@ -21,10 +20,7 @@ impl<S: Source> Gullet<S> {
     pub(crate) fn refusal(&self, refusal: GulletRefusal) -> GulletFault
         ensures { result ≡ fault_at (place_of self.now) (record { cause = gullet refusal; status = Normal }) }
     {
-        GulletFault {
-            cause: Cause::Gullet(refusal, self.source.place()),
-            status: Status::Normal,
-        }
+        Cause::Gullet(refusal, self.source.place()).into()
     }
 
     // An expansion is complete with nothing for its result: then the open conditionals change.

@@ -11,19 +11,15 @@ ghost use Rattle.gullet.specs.States.{place_of};
 use crate::fault::{Cause, GulletFault};
 use crate::parts::Gullet;
 use book::BookFault;
-use driving::Status;
 use sources::Source;
 use tokens::{Answer, GroupKind};
 
 impl<S: Source> Gullet<S> {
-    // A refusal by the book, at the present place: `refusal` with another cause, for which a trait would be longer.
+    // A refusal by the book, at the present place. It stands beside `refusal`: a trait for the two causes would be longer.
     pub(crate) fn refused_by_book(&self, fault: BookFault) -> GulletFault
         ensures { result ≡ fault_at (place_of self.now) (record { cause = book fault; status = Normal }) }
     {
-        GulletFault {
-            cause: Cause::Book(fault, self.source.place()),
-            status: Status::Normal,
-        }
+        Cause::Book(fault, self.source.place()).into()
     }
 
     // Opens a group, or is refused by the book.
