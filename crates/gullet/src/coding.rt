@@ -15,12 +15,7 @@ use tokens::{Answer, Category, Entry, Scope, Token};
 
 impl<S: Source> Gullet<S> {
     // A code has the category of a number from now on, and no task is under way any more.
-    fn give_category(
-        &mut self,
-        code: u8,
-        number: u8,
-        scope: Scope,
-    ) -> Result<Answer, GulletFault>
+    fn give_category(&mut self, code: u8, number: u8, scope: Scope) -> Result<Answer, GulletFault>
         ensures does { Does self.old self.new result (λ s r. recoded_as s code scope r s.stands (category_of number)) }
         ensures below { self.new.source.below ≡ self.old.source.below }
     {
