@@ -15,6 +15,7 @@ use Rattle.piles.specs.Helds.{held_tokens}
 use Rattle.piles.specs.Joins.{Reading}
 use Rattle.sources.specs.declared.fault.Place.{Place}
 use Rattle.sources.specs.declared.fault.PileFault.{PileFault}
+use Rattle.sources.specs.declared.source.Source.{Ghosts}
 use Rattle.book.specs.Books.{BookState}
 use Rattle.driving.specs.Streams.{stream, standing}
 use Rattle.driving.specs.Drives.{drive, stands_at, answer_of, Reached}
@@ -28,11 +29,11 @@ pub data Onward {S : Type 0} (reads : Spellings → S → S → Type 0) : S → 
   stays : {x y : S} → y ≡ x → Onward reads x y
   further : {x m y : S} (ns : Spellings) → reads ns x m → Onward reads m y → Onward reads x y
 
-pub record Drives {S P O : Type 0} (ahead : S → List Item) (place : S → Place) (reads : Reading S) (cs : Categories) (ns ms : Spellings) (old new : S) (result : Result O PileFault) (feed : P → Token → Move P O) (start : P) : Type 0 where
-  pub answer : result ≡ answer_of (place new) (drive feed (on start) (standing ns (ahead old)) (stream cs ns (ahead old)))
-  pub names : ms ≡ (stands_at (drive feed (on start) (standing ns (ahead old)) (stream cs ns (ahead old)))).names
-  pub items : ahead new ≡ (stands_at (drive feed (on start) (standing ns (ahead old)) (stream cs ns (ahead old)))).items
-  pub reached : Reached (reads cs) feed (on start) ns (stream cs ns (ahead old)) old new
+pub record Drives {S P O : Type 0} (source : Ghosts S) (cs : Categories) (ns ms : Spellings) (old new : S) (result : Result O PileFault) (feed : P → Token → Move P O) (start : P) : Type 0 where
+  pub answer : result ≡ answer_of (source.place new) (drive feed (on start) (standing ns (source.ahead old)) (stream cs ns (source.ahead old)))
+  pub names : ms ≡ (stands_at (drive feed (on start) (standing ns (source.ahead old)) (stream cs ns (source.ahead old)))).names
+  pub items : source.ahead new ≡ (stands_at (drive feed (on start) (standing ns (source.ahead old)) (stream cs ns (source.ahead old)))).items
+  pub reached : Reached (source.reads cs) feed (on start) ns (stream cs ns (source.ahead old)) old new
 
 pub record Feeds {S P O : Type 0} (ahead : S → List Item) (place : S → Place) (reads : Reading S) (book : BookState) (ns ms : Names) (old new : PutBack S) (result : Result O PileFault) (feed : P → Token → Move P O) (start : P) : Type 0 where
   pub answer : (read : List Token) → result ≡ answer_of (place new.below) (drive feed (on start) (reader (position_of ahead ns old) read) (stream_at (categories_of book) (position_of ahead ns old) read))

@@ -7,4 +7,5 @@ pub mod Turns
 pub mod Passing
 pub mod States
 pub mod Does
+pub mod Stages
 pub mod Drafts

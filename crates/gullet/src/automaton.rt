@@ -4,7 +4,7 @@ ghost use Rattle.matching.specs.Matching.{Move};
 ghost use Rattle.gullet.specs.Automata.{meant, Within};
 
 use std::ops::ControlFlow;
-use tokens::Token as Fed;
+use tokens::Token;
 
 // A rule that is fed tokens: it stands in a phase, and each token moves it on or out.
 pub(crate) trait Automaton {
@@ -20,7 +20,7 @@ pub(crate) trait Automaton {
     // The counts with which it can be fed: all of them, for a rule that does not count.
     ghost bears: { ℕ → Type 0 } = { λ _. Unit {0} };
 
-    fn feed(&self, phase: Self::Phase, token: Fed) -> ControlFlow<Self::Outcome, Self::Phase>
+    fn feed(&self, phase: Self::Phase, token: Token) -> ControlFlow<Self::Outcome, Self::Phase>
         requires { bears (held self.now phase) }
         ensures answer { meant result ≡ feeds self.now phase token }
         ensures grows { Within (held self.now) (held self.now phase + 1) (meant result) };

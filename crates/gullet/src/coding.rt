@@ -1,28 +1,23 @@
-ghost use Rattle.std.specs.Prelude.{Some};
+ghost use Rattle.std.specs.Prelude.{◌≡◌, Some};
 ghost use Rattle.tokens.specs.Categories.{category_of};
 ghost use Rattle.rules.specs.Assigning.{recoded_as, recoded_by, recoding_of, recoding_by, recoding};
-ghost use Rattle.gullet.specs.Does.{Does, ReadsOn, Unread};
+ghost use Rattle.gullet.specs.Does.{Does, ReadsOn};
 
 use crate::fault::GulletFault;
 use crate::feeding::fed;
 use crate::parts::Gullet;
-use crate::putting::PUT_BACK_LIMIT;
 use crate::recoding::{Numbers, Subjects, byte_of};
 use crate::telling::is_space;
+use piles::PUT_BACK_LIMIT;
 use rules::{GulletRefusal, Number, Subject};
 use sources::{PileFault, PileRefusal, Source};
-use tokens::{Answer, Category, Entry, Scope, Token as Read};
+use tokens::{Answer, Category, Entry, Scope, Token};
 
 impl<S: Source> Gullet<S> {
     // A code has the category of a number from now on, and no task is under way any more.
-    pub(crate) fn give_category(
-        &mut self,
-        code: u8,
-        number: u8,
-        scope: Scope,
-    ) -> Result<Answer, GulletFault>
-        ensures does { Does S.Source.ahead S.Source.place self.old self.new result (λ s r. recoded_as s code scope r s.stands (category_of number)) }
-        ensures below { Unread self.old self.new }
+    fn give_category(&mut self, code: u8, number: u8, scope: Scope) -> Result<Answer, GulletFault>
+        ensures does { Does self.old self.new result (λ s r. recoded_as s code scope r s.stands (category_of number)) }
+        ensures below { self.new.source.below ≡ self.old.source.below }
     {
         let Ok(category) = Category::try_from(number) else {
             return Err(self.refusal(GulletRefusal::BadCatcode));
@@ -35,15 +30,15 @@ impl<S: Source> Gullet<S> {
     }
 
     // The same, with the token behind the digits: a space is lost, and another is put back.
-    pub(crate) fn give_category_before(
+    fn give_category_before(
         &mut self,
         code: u8,
         number: u8,
-        token: Read,
+        token: Token,
         scope: Scope,
     ) -> Result<Answer, GulletFault>
-        ensures does { Does S.Source.ahead S.Source.place self.old self.new result (λ s r. recoded_by s code scope (Some (number, token)) r) }
-        ensures below { Unread self.old self.new }
+        ensures does { Does self.old self.new result (λ s r. recoded_by s code scope (Some (number, token)) r) }
+        ensures below { self.new.source.below ≡ self.old.source.below }
     {
         if is_space(&self.book, token) {
             return self.give_category(code, number, scope);
@@ -57,9 +52,9 @@ impl<S: Source> Gullet<S> {
     }
 
     // \catcode behind its character: a number follows.
-    pub(crate) fn recode_byte(&mut self, code: u8, scope: Scope) -> Result<Answer, GulletFault>
-        ensures does { Does S.Source.ahead S.Source.place self.old self.new result (λ s r. recoding_of s scope r (Some code)) }
-        ensures onward { ReadsOn S.Source.reads self.old self.new }
+    fn recode_byte(&mut self, code: u8, scope: Scope) -> Result<Answer, GulletFault>
+        ensures does { Does self.old self.new result (λ s r. recoding_of s scope r (Some code)) }
+        ensures onward { ReadsOn self.old self.new }
     {
         let found = fed(
             &mut self.source,
@@ -73,9 +68,9 @@ impl<S: Source> Gullet<S> {
     }
 
     // \catcode behind the token that its quote is for.
-    fn recode_token(&mut self, token: Read, scope: Scope) -> Result<Answer, GulletFault>
-        ensures does { Does S.Source.ahead S.Source.place self.old self.new result (λ s r. recoding_by s scope (Some token) r) }
-        ensures onward { ReadsOn S.Source.reads self.old self.new }
+    fn recode_token(&mut self, token: Token, scope: Scope) -> Result<Answer, GulletFault>
+        ensures does { Does self.old self.new result (λ s r. recoding_by s scope (Some token) r) }
+        ensures onward { ReadsOn self.old self.new }
     {
         let found = byte_of(&self.names, token);
         let code = found.ok_or_else(|| self.refusal(GulletRefusal::BadCatcode))?;
@@ -84,8 +79,8 @@ impl<S: Source> Gullet<S> {
 
     // \catcode.
     pub(crate) fn recode(&mut self, scope: Scope) -> Result<Answer, GulletFault>
-        ensures does { Does S.Source.ahead S.Source.place self.old self.new result (λ s r. recoding s r scope) }
-        ensures onward { ReadsOn S.Source.reads self.old self.new }
+        ensures does { Does self.old self.new result (λ s r. recoding s r scope) }
+        ensures onward { ReadsOn self.old self.new }
     {
         let found = fed(
             &mut self.source,

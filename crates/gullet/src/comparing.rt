@@ -7,7 +7,7 @@ use crate::fault::GulletFault;
 use crate::feeding::fed;
 use crate::naming::Two;
 use crate::parts::Gullet;
-use crate::telling::{meaning_of, same_meaning};
+use crate::telling::meaning_of;
 use rules::GulletRefusal;
 use sources::Source;
 use tokens::Answer;
@@ -15,21 +15,19 @@ use tokens::Answer;
 impl<S: Source> Gullet<S> {
     // Two tokens are read, and whether their meanings agree decides a conditional.
     pub(crate) fn compare(&mut self) -> Result<Answer, GulletFault>
-        requires room { 4096 + S.Source.most < 2 ^ 64 }
         requires few { length (parts_of self.old.conditionals) < 100 }
-        ensures does { Does S.Source.ahead S.Source.place self.old self.new result compared }
-        ensures onward { ReadsOn S.Source.reads self.old self.new }
+        ensures does { Does self.old self.new result compared }
+        ensures onward { ReadsOn self.old self.new }
     {
         let (one, other) = fed(&mut self.source, &self.book, &mut self.names, &Two, None)?;
-        let truth = same_meaning(meaning_of(&self.book, one), meaning_of(&self.book, other));
+        let truth = meaning_of(&self.book, one) == meaning_of(&self.book, other);
         self.decide(truth)
     }
 
     // A conditional that is decided already, unless 100 are open.
     pub(crate) fn begin_decided(&mut self, truth: bool) -> Result<Answer, GulletFault>
-        requires { 4096 + S.Source.most < 2 ^ 64 }
-        ensures does { Does S.Source.ahead S.Source.place self.old self.new result (λ s r. unless_open s r (decided s r truth)) }
-        ensures onward { ReadsOn S.Source.reads self.old self.new }
+        ensures does { Does self.old self.new result (λ s r. unless_open s r (decided s r truth)) }
+        ensures onward { ReadsOn self.old self.new }
     {
         if self.conditionals.is_full() {
             return Err(self.refusal(GulletRefusal::ConditionalsFull));
@@ -39,9 +37,8 @@ impl<S: Source> Gullet<S> {
 
     // A conditional that compares two tokens, unless 100 are open.
     pub(crate) fn begin_compared(&mut self) -> Result<Answer, GulletFault>
-        requires { 4096 + S.Source.most < 2 ^ 64 }
-        ensures does { Does S.Source.ahead S.Source.place self.old self.new result (λ s r. unless_open s r (compared s r)) }
-        ensures onward { ReadsOn S.Source.reads self.old self.new }
+        ensures does { Does self.old self.new result (λ s r. unless_open s r (compared s r)) }
+        ensures onward { ReadsOn self.old self.new }
     {
         if self.conditionals.is_full() {
             return Err(self.refusal(GulletRefusal::ConditionalsFull));

@@ -1,17 +1,18 @@
+ghost use Rattle.std.specs.Prelude.{◌≡◌};
 ghost use Rattle.rules.specs.States.{completed};
-ghost use Rattle.gullet.specs.Does.{Does, Unread};
+ghost use Rattle.gullet.specs.Does.{Does};
 
 use crate::fault::GulletFault;
 use crate::parts::Gullet;
 use crate::putting::put_behind;
 use sources::Source;
-use tokens::{Answer, Token as Read};
+use tokens::{Answer, Token};
 
 impl<S: Source> Gullet<S> {
     // An expansion is complete: its result is put back, and in front of it what waits for it.
-    pub(crate) fn complete(&mut self, res: &[Read]) -> Result<Answer, GulletFault>
-        ensures does { Does S.Source.ahead S.Source.place self.old self.new result (λ s r. completed s r s.conditionals res.now) }
-        ensures below { Unread self.old self.new }
+    pub(crate) fn complete(&mut self, res: &[Token]) -> Result<Answer, GulletFault>
+        ensures does { Does self.old self.new result (λ s r. completed s r s.conditionals res.now) }
+        ensures below { self.new.source.below ≡ self.old.source.below }
     {
         self.waiting.held.clear();
         // at most 64 wait, for which there is room

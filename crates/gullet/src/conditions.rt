@@ -3,7 +3,7 @@ ghost use Rattle.driving.specs.declared.status.Status.TheVariants.{Normal};
 ghost use Rattle.rules.specs.Expanding.{at_fi_of};
 ghost use Rattle.rules.specs.Refusals.{gullet};
 ghost use Rattle.rules.specs.States.{completed};
-ghost use Rattle.gullet.specs.Does.{Does, ReadsOn, Unread};
+ghost use Rattle.gullet.specs.Does.{Does, ReadsOn};
 ghost use Rattle.gullet.specs.Faults.{fault_at};
 ghost use Rattle.gullet.specs.States.{place_of};
 ghost use Rattle.gullet.specs.Turns.{turned};
@@ -11,7 +11,6 @@ ghost use Rattle.gullet.specs.Turns.{turned};
 use crate::fault::{Cause, GulletFault};
 use crate::parts::Gullet;
 use crate::turn::{Turn, turn_to};
-use driving::Status;
 use rules::GulletRefusal;
 use sources::Source;
 use tokens::Answer;
@@ -19,18 +18,15 @@ use tokens::Answer;
 impl<S: Source> Gullet<S> {
     // A refusal of the gullet itself, where reading stands, outside of matching, defining and skipping.
     pub(crate) fn refusal(&self, refusal: GulletRefusal) -> GulletFault
-        ensures { result ≡ fault_at (place_of S.Source.place self.now) (record { cause = gullet refusal; status = Normal }) }
+        ensures { result ≡ fault_at (place_of self.now) (record { cause = gullet refusal; status = Normal }) }
     {
-        GulletFault {
-            cause: Cause::Gullet(refusal, self.source.place()),
-            status: Status::Normal,
-        }
+        Cause::Gullet(refusal, self.source.place()).into()
     }
 
     // An expansion is complete with nothing for its result: then the open conditionals change.
     pub(crate) fn conclude(&mut self, turn: Turn) -> Result<Answer, GulletFault>
-        ensures does { Does S.Source.ahead S.Source.place self.old self.new result (λ s r. completed s r (turned turn s.conditionals) []) }
-        ensures below { Unread self.old self.new }
+        ensures does { Does self.old self.new result (λ s r. completed s r (turned turn s.conditionals) []) }
+        ensures below { self.new.source.below ≡ self.old.source.below }
     {
         let answer = self.complete(&[])?;
         turn_to(&mut self.conditionals, turn);
@@ -39,8 +35,8 @@ impl<S: Source> Gullet<S> {
 
     // A \fi closes the innermost conditional, if one is open.
     pub(crate) fn end_conditional(&mut self) -> Result<Answer, GulletFault>
-        ensures does { Does S.Source.ahead S.Source.place self.old self.new result (λ s r. at_fi_of s r s.conditionals) }
-        ensures onward { ReadsOn S.Source.reads self.old self.new }
+        ensures does { Does self.old self.new result (λ s r. at_fi_of s r s.conditionals) }
+        ensures onward { ReadsOn self.old self.new }
     {
         if self.conditionals.is_empty() {
             return Err(self.refusal(GulletRefusal::Misplaced));

@@ -31,9 +31,8 @@ impl From<Found> for Turn {
 impl<S: Source> Gullet<S> {
     // Skips to where a part of a conditional ends.
     fn skip(&mut self, until: Until) -> Result<Found, GulletFault>
-        requires room { 4096 + S.Source.most < 2 ^ 64 }
-        ensures finds { Finds S.Source.ahead S.Source.place self.old self.new result (under Skipping) (λ s r. skipping s r until) }
-        ensures onward { ReadsOn S.Source.reads self.old self.new }
+        ensures finds { Finds self.old self.new result (under Skipping) (λ s r. skipping s r until) }
+        ensures onward { ReadsOn self.old self.new }
     {
         let guard = Guard::enter(&mut self.scan, Status::Skipping);
         let status = guard.status();
@@ -49,9 +48,8 @@ impl<S: Source> Gullet<S> {
 
     // An \else, where the innermost conditional is in its first part: its second is skipped.
     pub(crate) fn else_part(&mut self) -> Result<Answer, GulletFault>
-        requires room { 4096 + S.Source.most < 2 ^ 64 }
-        ensures does { Does S.Source.ahead S.Source.place self.old self.new result (λ s r. at_else_of s r s.conditionals) }
-        ensures onward { ReadsOn S.Source.reads self.old self.new }
+        ensures does { Does self.old self.new result (λ s r. at_else_of s r s.conditionals) }
+        ensures onward { ReadsOn self.old self.new }
     {
         if self.conditionals.innermost_part() != Some(Part::First) {
             return Err(self.refusal(GulletRefusal::Misplaced));
@@ -62,10 +60,9 @@ impl<S: Source> Gullet<S> {
 
     // A conditional is decided: it is open in its first part, or, if it is false, skipped to its \else or \fi.
     pub(crate) fn decide(&mut self, truth: bool) -> Result<Answer, GulletFault>
-        requires room { 4096 + S.Source.most < 2 ^ 64 }
         requires few { length (parts_of self.old.conditionals) < 100 }
-        ensures does { Does S.Source.ahead S.Source.place self.old self.new result (λ s r. decided s r truth) }
-        ensures onward { ReadsOn S.Source.reads self.old self.new }
+        ensures does { Does self.old self.new result (λ s r. decided s r truth) }
+        ensures onward { ReadsOn self.old self.new }
     {
         if truth {
             return self.conclude(Turn::Begin);

@@ -25,14 +25,14 @@ fn drafted<S: Source>(
     book: &Book,
     draft: &mut Draft,
 ) -> Result<DefinitionEnd, PileFault>
-    ensures { Drives S.Source.ahead S.Source.place S.Source.reads categories.now (listed names.old) (listed names.new) source.old source.new (defined_of result draft.new) (definition_feed (meanings_of (book_of book.now))) (in_text [] 0) }
+    ensures { Drives S.Source categories.now (listed names.old) (listed names.new) source.old source.new (defined_of result draft.new) (definition_feed (meanings_of (book_of book.now))) (in_text [] 0) }
 {
     draft.parameters.held.clear();
-    let mut stage = Stage::InText { count: 0 };
+    draft.stage = Stage::InText { count: 0 };
     'tokens: loop {
         let token = needed(source, categories, names)?;
-        match draft.feed(book, stage, token) {
-            ControlFlow::Continue(next) => stage = next,
+        match draft.feed(book, token) {
+            ControlFlow::Continue(()) => {}
             ControlFlow::Break(end) => return Ok(end),
         }
     }

@@ -1,4 +1,5 @@
 ghost use Rattle.std.specs.Prelude.{◌≤◌, vec_len};
+ghost use Rattle.gullet.specs.Stages.{depth_of};
 
 use buffers::Buffer;
 use std::alloc::{AllocError, Global};
@@ -7,12 +8,15 @@ use tokens::{BodyWord, ParameterWord};
 // The most words of a definition.
 pub(crate) const WORDS_LIMIT: usize = 2_048;
 
-// The words of a definition that is being read. All memory is taken at first.
+// A definition that is being read: its words so far, and where its reading is. All memory is taken at first.
 #[derive(Drop)]
 pub(crate) struct Draft {
     pub(crate) parameters: Buffer<ParameterWord, WORDS_LIMIT>,
     pub(crate) body: Buffer<BodyWord, WORDS_LIMIT>,
+    pub(crate) stage: Stage,
     ghost few: { vec_len body.held ≤ 2048 },
+    // the open braces are words of the body
+    ghost deep: { depth_of stage ≤ vec_len body.held },
 }
 
 // Where the reading of a definition is: in the parameter text or the body, or behind a character of category 6 there,
@@ -38,6 +42,7 @@ impl Draft {
         Ok(Draft {
             parameters: Buffer::new(heap)?,
             body: Buffer::new(heap)?,
+            stage: Stage::InText { count: 0 },
         })
     }
 }

@@ -18,7 +18,7 @@ pub(crate) fn driven<S: Source, A: Automaton>(
     start: A::Phase,
 ) -> Result<A::Outcome, PileFault>
     requires { (n : ℕ) → n < A.Automaton.held automaton.now start + S.Source.most → A.Automaton.bears n }
-    ensures { Drives S.Source.ahead S.Source.place S.Source.reads categories.now (listed names.old) (listed names.new) source.old source.new result (A.Automaton.feeds automaton.now) start }
+    ensures { Drives S.Source categories.now (listed names.old) (listed names.new) source.old source.new result (A.Automaton.feeds automaton.now) start }
 {
     let mut phase = start;
     'tokens: loop {

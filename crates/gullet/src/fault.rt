@@ -24,14 +24,22 @@ pub struct GulletFault {
     pub status: Status,
 }
 
-// A fault of the pile outside of matching, defining and skipping.
+// A fault outside of matching, defining and skipping.
+impl From<Cause> for GulletFault {
+    ghost from_gives = { λ why r. r ≡ record { cause = why; status = Normal } };
+
+    fn from(cause: Cause) -> GulletFault {
+        GulletFault {
+            cause,
+            status: Status::Normal,
+        }
+    }
+}
+
 impl From<PileFault> for GulletFault {
     ghost from_gives = { λ e r. r ≡ record { cause = Pile e; status = Normal } };
 
     fn from(fault: PileFault) -> GulletFault {
-        GulletFault {
-            cause: Cause::Pile(fault),
-            status: Status::Normal,
-        }
+        Cause::Pile(fault).into()
     }
 }

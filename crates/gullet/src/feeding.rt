@@ -15,7 +15,7 @@ use tokens::Category;
 pub(crate) fn categories(book: &Book) -> &[Category; 256]
     ensures { result.now ≡ categories_of (book_of book.now) }
 {
-    book.categories().first_chunk::<256>().unwrap()
+    book.categories()
 }
 
 // Feeds a rule with the tokens ahead, until it is out. A gullet lends its parts one by one, since a rule may hold its book.

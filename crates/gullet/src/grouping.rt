@@ -4,32 +4,28 @@ ghost use Rattle.driving.specs.declared.status.Status.TheVariants.{Normal};
 ghost use Rattle.book.specs.Books.{open_answer, after_open, close_answer, after_close};
 ghost use Rattle.rules.specs.Refusals.{book};
 ghost use Rattle.rules.specs.Stepping.{grouped};
-ghost use Rattle.gullet.specs.Does.{Does, Unread};
+ghost use Rattle.gullet.specs.Does.{Does};
 ghost use Rattle.gullet.specs.Faults.{fault_at};
 ghost use Rattle.gullet.specs.States.{place_of};
 
 use crate::fault::{Cause, GulletFault};
 use crate::parts::Gullet;
 use book::BookFault;
-use driving::Status;
 use sources::Source;
 use tokens::{Answer, GroupKind};
 
 impl<S: Source> Gullet<S> {
-    // A refusal by the book, at the present place: `refusal` with another cause, for which a trait would be longer.
+    // A refusal by the book, at the present place. It stands beside `refusal`: a trait for the two causes would be longer.
     pub(crate) fn refused_by_book(&self, fault: BookFault) -> GulletFault
-        ensures { result ≡ fault_at (place_of S.Source.place self.now) (record { cause = book fault; status = Normal }) }
+        ensures { result ≡ fault_at (place_of self.now) (record { cause = book fault; status = Normal }) }
     {
-        GulletFault {
-            cause: Cause::Book(fault, self.source.place()),
-            status: Status::Normal,
-        }
+        Cause::Book(fault, self.source.place()).into()
     }
 
     // Opens a group, or is refused by the book.
     pub(crate) fn open_group(&mut self, kind: GroupKind) -> Result<Answer, GulletFault>
-        ensures does { Does S.Source.ahead S.Source.place self.old self.new result (λ s r. grouped s r (Opened kind) (after_open kind s.book) (open_answer s.book)) }
-        ensures below { Unread self.old self.new }
+        ensures does { Does self.old self.new result (λ s r. grouped s r (Opened kind) (after_open kind s.book) (open_answer s.book)) }
+        ensures below { self.new.source.below ≡ self.old.source.below }
     {
         self.book
             .open(kind)
@@ -39,8 +35,8 @@ impl<S: Source> Gullet<S> {
 
     // Closes the innermost group, or is refused by the book.
     pub(crate) fn close_group(&mut self, kind: GroupKind) -> Result<Answer, GulletFault>
-        ensures does { Does S.Source.ahead S.Source.place self.old self.new result (λ s r. grouped s r (Closed kind) (after_close kind s.book) (close_answer kind s.book)) }
-        ensures below { Unread self.old self.new }
+        ensures does { Does self.old self.new result (λ s r. grouped s r (Closed kind) (after_close kind s.book) (close_answer kind s.book)) }
+        ensures below { self.new.source.below ≡ self.old.source.below }
     {
         self.book
             .close(kind)

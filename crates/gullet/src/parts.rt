@@ -1,4 +1,4 @@
-ghost use Rattle.std.specs.Prelude.{◌≡◌, true};
+ghost use Rattle.std.specs.Prelude.{◌≡◌, ◌+◌, ◌^◌, ◌<◌, true};
 ghost use Rattle.gullet.specs.Idle.{is_normal};
 
 use crate::draft::Draft;
@@ -10,11 +10,12 @@ use matcher::Arguments;
 use names::Names;
 use pending::{Conditionals, Tasks};
 use piles::PutBack;
+use sources::Source;
 use tokens::Token;
 
 // A gullet over any source, with its own put-back on top. Between calls the scanning status is normal.
 #[derive(Drop)]
-pub struct Gullet<S> {
+pub struct Gullet<S: Source> {
     pub(crate) source: PutBack<S>,
     pub(crate) names: Names,
     pub(crate) book: Book,
@@ -29,4 +30,6 @@ pub struct Gullet<S> {
     // tokens that are about to be put back in front of a result
     pub(crate) waiting: Buffer<Token, 64>,
     ghost idle: { is_normal scan.status ≡ true },
+    // the tokens ahead can be counted in 64 bits
+    ghost countable: { 4096 + S.Source.most < 2 ^ 64 },
 }

@@ -2,12 +2,9 @@ ghost use Rattle.std.specs.Prelude.{◌≡◌, ◌++◌};
 ghost use Rattle.piles.specs.Helds.{held_tokens};
 ghost use Rattle.piles.specs.Inserting.{put_back, put_answer, held_after};
 
-use piles::PutBack;
+use piles::{PUT_BACK_LIMIT, PutBack};
 use sources::{PileFault, PileRefusal, Source};
 use tokens::Token;
-
-// The most tokens that may be put back at a time: piles keeps the same limit, and does not show it.
-pub(crate) const PUT_BACK_LIMIT: usize = 4_096;
 
 // Puts a result back, and in front of it the tokens that wait for it: all of them, or none.
 pub(crate) fn put_behind<S: Source>(

@@ -3,7 +3,7 @@ ghost use Rattle.std.specs.Prelude.{◌≡◌, ◌≤◌};
 ghost use Rattle.book.specs.Meanings.{shown};
 ghost use Rattle.book.specs.Said.{book_of};
 ghost use Rattle.rules.specs.States.{meanings_of};
-ghost use Rattle.rules.specs.Tokens.{meaning, is_hash, is_space, is_explicit_space, is_equals, is_quote, digit_of, is_digit, same_meaning};
+ghost use Rattle.rules.specs.Tokens.{meaning, is_hash, is_space, is_explicit_space, is_equals, is_quote, digit_of, is_digit};
 
 use book::{Book, Meaning};
 use tokens::{Token, TokenCategory};
@@ -18,7 +18,7 @@ pub(crate) fn meaning_of(book: &Book, token: Token) -> Meaning<'_>
     }
 }
 
-// Whether it means a space. This test and the next are plainer than one with a category and calls of it.
+// Whether it means a space.
 pub(crate) fn is_space(book: &Book, token: Token) -> bool
     ensures { result ≡ is_space (meanings_of (book_of book.now)) token }
 {
@@ -72,11 +72,4 @@ pub(crate) fn is_digit(digit: u8, token: Token) -> bool
     ensures { result ≡ is_digit digit token }
 {
     token == Token::Character(TokenCategory::Other, b'0' + digit)
-}
-
-// Whether two meanings agree.
-pub(crate) fn same_meaning(one: Meaning, other: Meaning) -> bool
-    ensures { result ≡ same_meaning (shown one.entry) (shown other.entry) }
-{
-    one == other
 }

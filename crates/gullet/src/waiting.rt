@@ -13,8 +13,8 @@ use tokens::Answer;
 impl<S: Source> Gullet<S> {
     // A token is read, and waits for the expansion of what follows.
     pub(crate) fn expand_after(&mut self) -> Result<Answer, GulletFault>
-        ensures does { Does S.Source.ahead S.Source.place self.old self.new result expand_after }
-        ensures onward { ReadsOn S.Source.reads self.old self.new }
+        ensures does { Does self.old self.new result expand_after }
+        ensures onward { ReadsOn self.old self.new }
     {
         if self.tasks.is_full() {
             return Err(self.refusal(GulletRefusal::TasksFull));

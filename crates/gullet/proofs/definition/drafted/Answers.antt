@@ -12,7 +12,7 @@ use Rattle.driving.proofs.Turns.{token_size, drive_token, reached_token, drive_s
 use Rattle.gullet.proofs.definition.drafted.Goals as goal
 
 pub tokens-init : goal.tokens-init
-tokens-init g c = rw c.clear.ensures.items (refl, λ y r. r, omega arith)
+tokens-init g c = rw c.clear.ensures.items (refl, λ y r. r)
 
 pub returns-in_err-token : goal.returns-in_err-token
 returns-in_err-token g c =
@@ -25,7 +25,7 @@ returns-in_err-token g c =
     let here = standing ns (g.S.Source.ahead c.tokens.source) in
     let reads = g.S.Source.reads cs in
     let feed = definition_feed (meanings_of (book_of c.args.book.now)) in
-    let at = view c.tokens.stage c.tokens.draft in
+    let at = view c.tokens.draft in
     let f = c.in_err-token.field-0.0 in
     let t = c.in_err-token.ensures in
     let r = err_from_is_err_and c.from_residual.result c.from_residual.ensures.1 in
@@ -58,14 +58,13 @@ tokens-preserved g c =
     let b = standing ms js in
     let reads = g.S.Source.reads cs in
     let feed = definition_feed (meanings_of (book_of c.args.book.now)) in
-    let at = view c.tokens.stage c.tokens.draft in
+    let at = view c.tokens.draft in
     let t = c.in_ok-token.token in
     let e = c.in_ok-token.ensures in
-    let m = on (view c.in-Continue.next c.feed.new.self) in
+    let m = on (view c.feed.new.self) in
     let f = c.in-Continue.ensures in (
-      sym (drive_token reads feed at s more t b m e.takes f.moves here) ∙ c.tokens.invariant.0,
-      λ y r. c.tokens.invariant.1 y (reached_token reads feed at s more t b m e.takes f.moves ns c.tokens.source c.needed.new.source y e.reads r),
-      f.within,
+      sym (drive_token reads feed at s more t b m e.takes f here) ∙ c.tokens.invariant.0,
+      λ y r. c.tokens.invariant.1 y (reached_token reads feed at s more t b m e.takes f ns c.tokens.source c.needed.new.source y e.reads r),
     )
 
 pub returns-in-Break : goal.returns-in-Break
@@ -81,11 +80,11 @@ returns-in-Break g c =
     let b = standing ms js in
     let reads = g.S.Source.reads cs in
     let feed = definition_feed (meanings_of (book_of c.args.book.now)) in
-    let at = view c.tokens.stage c.tokens.draft in
+    let at = view c.tokens.draft in
     let t = c.in_ok-token.token in
     let e = c.in_ok-token.ensures in
     let m = out (end_of c.in-Break.end c.feed.new.self) in
-    let f = c.in-Break.ensures.moves in
+    let f = c.in-Break.ensures in
     let d = sym (drive_token reads feed at s more t b m e.takes f here) ∙ c.tokens.invariant.0 in
     record {
       answer = ap (answer_of place) d;

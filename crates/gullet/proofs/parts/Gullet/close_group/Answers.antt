@@ -9,7 +9,7 @@ use Rattle.gullet.proofs.parts.Gullet.close_group.Goals as goal
 
 pub returns-in_err-map_err-clause-does : goal.returns-in_err-map_err-clause-does
 returns-in_err-map_err-clause-does g c =
-    let s = state_of g.S.Source.ahead c.args.self.now in
+    let s = state_of c.args.self.now in
     let e = c.close.ensures in
     record {
       answer = search rules;

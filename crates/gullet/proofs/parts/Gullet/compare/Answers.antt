@@ -9,6 +9,7 @@ use Rattle.rules.specs.States.{State, state, Stepped, ahead, meanings_of}
 use Rattle.rules.specs.Tokens.{meaning, same_meaning}
 use Rattle.gullet.specs.Fed.{position_of}
 use Rattle.gullet.specs.States.{state_of}
+use Rattle.gullet.proofs.Agreeing.{agree}
 use Rattle.gullet.proofs.Doing.{fed_then, fed_short, does_as}
 use Rattle.gullet.proofs.Holding.{onward_both}
 use Rattle.gullet.proofs.Passed.{decided_elsewhere}
@@ -30,12 +31,13 @@ returns-in_err-one-clause-does g c =
 
 pub returns-clause-does : goal.returns-clause-does
 returns-clause-does g c =
-    let s = state_of g.S.Source.ahead c.args.self.now in
+    let s = state_of c.args.self.now in
     let e = c.in_ok-one.ensures in
     let two : Token × Token = (c.in_ok-one.one, c.in_ok-one.other) in
     let mid = state (position_of g.S.Source.ahead c.fed.new.names c.fed.new.source) s.book s.conditionals s.tasks in
-    let truth = c.same_meaning-truth.result in
-    let told : truth ≡ agreeing s two = c.same_meaning-truth.ensures
+    let truth = c.eq-truth.result in
+    let told : truth ≡ agreeing s two = c.eq-truth.ensures
+    ∙ agree c.meaning_of.result c.meaning_of-2.result
     ∙ ap (λ (m : Means). same_meaning m (shown c.meaning_of-2.result)) c.meaning_of.ensures
     ∙ ap (λ (m : Means). same_meaning (meaning (meanings_of s.book) two.0) m) c.meaning_of-2.ensures in
     fed_then two_from decides c.args.self.now two e.answer e.stands refl (λ z q. decided_elsewhere z q (agreeing z two))

@@ -10,7 +10,7 @@ use Rattle.gullet.proofs.parts.Gullet.complete.Goals as goal
 pub returns-clause-does : goal.returns-clause-does
 returns-clause-does g c =
     let me = c.args.self.now in
-    let s = state_of g.S.Source.ahead me in
+    let s = state_of me in
     let cap = c.clear.ensures.capacity in
     let room = me.waiting.room in
     let enough : 64 ≤ vec_capacity c.clear.new.self = omega arith in

@@ -15,7 +15,7 @@ use Rattle.gullet.proofs.parts.Gullet.conclude.Goals as goal
 pub returns-in_err-answer-clause-does : goal.returns-in_err-answer-clause-does
 returns-in_err-answer-clause-does g c =
     let me = c.args.self.now in
-    let s = state_of g.S.Source.ahead me in
+    let s = state_of me in
     let x = put_back (waiting_of (tasks_of me.tasks) ++ []) (held_tokens me.source.held) in
     let p = g.S.Source.place c.complete.new.self.source.below in
     let turn = turned c.args.turn in
@@ -30,9 +30,9 @@ returns-in_err-answer-clause-does g c =
 pub returns-clause-does : goal.returns-clause-does
 returns-clause-does g c =
     let me = c.args.self.now in
-    let s = state_of g.S.Source.ahead me in
+    let s = state_of me in
     let x = put_back (waiting_of (tasks_of me.tasks) ++ []) (held_tokens me.source.held) in
-    let after = state_of g.S.Source.ahead c.complete.new.self in
+    let after = state_of c.complete.new.self in
     let p = g.S.Source.place c.complete.new.self.source.below in
     let turn = turned c.args.turn in
     let e = c.in_ok-answer.ensures.does in

@@ -18,7 +18,7 @@ use Rattle.gullet.proofs.parts.Gullet.decide.Goals as goal
 
 pub returns-then-truth-clause-does : goal.returns-then-truth-clause-does
 returns-then-truth-clause-does g c =
-    let s = state_of g.S.Source.ahead c.args.self.now in
+    let s = state_of c.args.self.now in
     does_as (λ z r. completed z r (turned Begin z.conditionals) []) (λ z r. decided z r c.args.truth)
     (λ read. sym (decided_true s c.requires.few c.args.truth (reader s.stands read) c.if-truth.true)) c.conclude.ensures.does
 
@@ -27,15 +27,15 @@ returns-then-truth-clause-onward g c = stays c.conclude.ensures.below
 
 pub returns-in_err-found-clause-does : goal.returns-in_err-found-clause-does
 returns-in_err-found-clause-does g c =
-    let s = state_of g.S.Source.ahead c.args.self.now in
+    let s = state_of c.args.self.now in
     let e = c.in_err-found.ensures.finds in
     does_as _ (λ z r. decided z r c.args.truth) (λ read. sym (decided_false s c.args.truth (reader s.stands read) c.if-truth.false))
     (does_short Skipping (λ z r. skipping z r ElseOrFi) skipped_to c.from_residual.result c.in_err-found.field-0.0 (err_is _ _ c.from_residual.ensures.1) e.answer e.state)
 
 pub returns-clause-does : goal.returns-clause-does
 returns-clause-does g c =
-    let s = state_of g.S.Source.ahead c.args.self.now in
-    let mid = state_of g.S.Source.ahead c.skip.new.self in
+    let s = state_of c.args.self.now in
+    let mid = state_of c.skip.new.self in
     let e = c.in_ok-found.ensures.finds in
     let o = c.in_ok-found.found in
     let few : length mid.conditionals < 100 = subst (λ (cs : List Part). length cs < 100) (sym (ap (λ (z : State). z.conditionals) (e.state []))) c.requires.few in

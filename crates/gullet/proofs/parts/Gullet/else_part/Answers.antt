@@ -18,7 +18,7 @@ returns-then-ne-clause-onward g c = stays refl
 
 pub returns-in_err-skip-clause-does : goal.returns-in_err-skip-clause-does
 returns-in_err-skip-clause-does g c =
-    let s = state_of g.S.Source.ahead c.args.self.now in
+    let s = state_of c.args.self.now in
     let n : is_first (front s.conditionals) ≡ true = search rules in
     let e = c.skip.ensures.finds in
     does_as _ (λ z r. at_else_of z r z.conditionals) (λ read. sym (else_skips s (reader s.stands read) s.conditionals n))
@@ -26,7 +26,7 @@ returns-in_err-skip-clause-does g c =
 
 pub returns-clause-does : goal.returns-clause-does
 returns-clause-does g c =
-    let s = state_of g.S.Source.ahead c.args.self.now in
+    let s = state_of c.args.self.now in
     let n : is_first (front s.conditionals) ≡ true = search rules in
     let e = c.skip.ensures.finds in
     does_as _ (λ z r. at_else_of z r z.conditionals) (λ read. sym (else_skips s (reader s.stands read) s.conditionals n))

@@ -15,7 +15,7 @@ use Rattle.gullet.proofs.parts.Gullet.end_conditional.Goals as goal
 
 pub returns-then-is_empty-clause-does : goal.returns-then-is_empty-clause-does
 returns-then-is_empty-clause-does g c =
-    let s = state_of g.S.Source.ahead c.args.self.now in
+    let s = state_of c.args.self.now in
     let n : length s.conditionals ≡ 0 = parts_count c.args.self.now.conditionals ∙ eqb-true (length (items_of c.args.self.now.conditionals)) 0 (sym c.is_empty.ensures ∙ c.if-is_empty.true) in
     does_refuse _ Misplaced (λ z r. at_fi_of z r z.conditionals) c.refusal.ensures (λ read. sym (fi_refused s (reader s.stands read) s.conditionals n))
 
@@ -24,7 +24,7 @@ returns-then-is_empty-clause-onward g c = stays refl
 
 pub returns-clause-does : goal.returns-clause-does
 returns-clause-does g c =
-    let s = state_of g.S.Source.ahead c.args.self.now in
+    let s = state_of c.args.self.now in
     let n : 0 < length s.conditionals = omega (arith, parts_count c.args.self.now.conditionals, eqb-false (length (items_of c.args.self.now.conditionals)) 0 (sym c.is_empty.ensures ∙ c.if-is_empty.false)) in
     does_as (λ z r. completed z r (behind z.conditionals) []) (λ z r. at_fi_of z r z.conditionals) (λ read. sym (fi_closes s (reader s.stands read) s.conditionals n)) c.conclude.ensures.does
 

@@ -25,7 +25,7 @@ returns-then-is_full-clause-onward g c = stays refl
 
 pub returns-in_err-token-clause-does : goal.returns-in_err-token-clause-does
 returns-in_err-token-clause-does g c =
-    let s = state_of g.S.Source.ahead c.args.self.now in
+    let s = state_of c.args.self.now in
     let few : leb 64 (length s.tasks) ≡ false = sym c.is_full.ensures ∙ c.if-is_full.false in
     let e = c.in_err-token.ensures in
     does_as _ expand_after (λ read. sym (after_reads s (reader s.stands read) few))
@@ -33,7 +33,7 @@ returns-in_err-token-clause-does g c =
 
 pub returns-clause-does : goal.returns-clause-does
 returns-clause-does g c =
-    let s = state_of g.S.Source.ahead c.args.self.now in
+    let s = state_of c.args.self.now in
     let few : leb 64 (length s.tasks) ≡ false = sym c.is_full.ensures ∙ c.if-is_full.false in
     let less : length s.tasks < 64 = leb-false 64 (length s.tasks) few in
     let e = c.in_ok-token.ensures in

@@ -12,7 +12,7 @@ use Rattle.gullet.proofs.parts.Gullet.give_alike.Goals as goal
 
 pub returns-in_err-map_err-clause-does : goal.returns-in_err-map_err-clause-does
 returns-in_err-map_err-clause-does g c =
-    let s = state_of g.S.Source.ahead c.args.self.now in
+    let s = state_of c.args.self.now in
     let n = c.args.name in
     let sc = c.args.scope in
     let m = meaning (meanings_of s.book) c.args.token in

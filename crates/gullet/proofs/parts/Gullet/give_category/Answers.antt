@@ -11,7 +11,7 @@ use Rattle.gullet.proofs.parts.Gullet.give_category.Goals as goal
 
 pub returns-in_err-map_err-clause-does : goal.returns-in_err-map_err-clause-does
 returns-in_err-map_err-clause-does g c =
-    let s = state_of g.S.Source.ahead c.args.self.now in
+    let s = state_of c.args.self.now in
     let x = c.args.code in
     let sc = c.args.scope in
     let y = c.in-Ok.category in
@@ -23,7 +23,7 @@ returns-in_err-map_err-clause-does g c =
 
 pub returns-clause-does : goal.returns-clause-does
 returns-clause-does g c =
-    let s = state_of g.S.Source.ahead c.args.self.now in
+    let s = state_of c.args.self.now in
     let x = c.args.code in
     let sc = c.args.scope in
     let y = c.in-Ok.category in

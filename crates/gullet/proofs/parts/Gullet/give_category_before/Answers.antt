@@ -15,7 +15,7 @@ use Rattle.gullet.proofs.parts.Gullet.give_category_before.Goals as goal
 
 pub returns-then-is_space-clause-does : goal.returns-then-is_space-clause-does
 returns-then-is_space-clause-does g c =
-    let s = state_of g.S.Source.ahead c.args.self.now in
+    let s = state_of c.args.self.now in
     let x = c.args.code in
     let sc = c.args.scope in
     let v = c.args.number in
@@ -25,7 +25,7 @@ returns-then-is_space-clause-does g c =
 
 pub returns-in_err-answer-clause-does : goal.returns-in_err-answer-clause-does
 returns-in_err-answer-clause-does g c =
-    let s = state_of g.S.Source.ahead c.args.self.now in
+    let s = state_of c.args.self.now in
     let x = c.args.code in
     let sc = c.args.scope in
     let v = c.args.number in
@@ -50,7 +50,7 @@ returns-in_err-answer-clause-does g c =
 
 pub returns-clause-does : goal.returns-clause-does
 returns-clause-does g c =
-    let s = state_of g.S.Source.ahead c.args.self.now in
+    let s = state_of c.args.self.now in
     let x = c.args.code in
     let sc = c.args.scope in
     let v = c.args.number in
@@ -66,7 +66,7 @@ returns-clause-does g c =
     let u = c.put_back.ensures in
     let done = c.give_category-2.new.self in
     let p = g.S.Source.place done.source.below in
-    let h = λ (read : List Token). recoded_over_lem s (reader s.stands read) sc p after x (category_of v) c.in_ok-answer.answer (state_of g.S.Source.ahead done) (e.answer read) (e.state read) in
+    let h = λ (read : List Token). recoded_over_lem s (reader s.stands read) sc p after x (category_of v) c.in_ok-answer.answer (state_of done) (e.answer read) (e.state read) in
     record {
       answer = λ read. (h read).0 ∙ ap (λ (z : Stepped). placed p z.answer) (k read) ∙ ap (λ b. placed (g.S.Source.place b) (recoded_by s x sc (Some (v, t)) (reader s.stands read)).answer) (sym u.below);
       state = λ read. rw (u.held, u.below) ((h read).1 ∙ ap (λ (z : Stepped). z.state) (k read));

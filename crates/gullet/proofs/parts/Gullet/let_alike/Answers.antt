@@ -16,7 +16,7 @@ use Rattle.gullet.proofs.parts.Gullet.let_alike.Goals as goal
 
 pub returns-in_err-name-clause-does : goal.returns-in_err-name-clause-does
 returns-in_err-name-clause-does g c =
-    let s = state_of g.S.Source.ahead c.args.self.now in
+    let s = state_of c.args.self.now in
     let e = c.in_err-name.ensures.finds in
     let q = err_from_is_err_and c.from_residual.result c.from_residual.ensures.1 in
     let h = λ (read : List Token). named_refused s (g.S.Source.place c.named_target.new.self.source.below) (λ n r. let_named s r n c.args.scope) (named_ahead s (reader s.stands read)) c.in_err-name.field-0.0 (e.answer read) in
@@ -27,7 +27,7 @@ returns-in_err-name-clause-does g c =
 
 pub returns-clause-does : goal.returns-clause-does
 returns-clause-does g c =
-    let s = state_of g.S.Source.ahead c.args.self.now in
+    let s = state_of c.args.self.now in
     let e = c.in_ok-name.ensures.finds in
     let n = c.in_ok-name.name in
     let p = g.S.Source.place c.named_target.new.self.source.below in

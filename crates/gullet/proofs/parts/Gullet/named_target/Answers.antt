@@ -11,7 +11,7 @@ use Rattle.gullet.proofs.parts.Gullet.named_target.Goals as goal
 
 pub returns-in_err-name-clause-finds : goal.returns-in_err-name-clause-finds
 returns-in_err-name-clause-finds g c =
-    let s = state_of g.S.Source.ahead c.args.self.now in
+    let s = state_of c.args.self.now in
     let e = c.in_err-name.ensures in
     let q = err_from_is_err_and c.from_residual.result c.from_residual.ensures.1 in
     record {
@@ -21,7 +21,7 @@ returns-in_err-name-clause-finds g c =
 
 pub returns-clause-finds : goal.returns-clause-finds
 returns-clause-finds g c =
-    let s = state_of g.S.Source.ahead c.args.self.now in
+    let s = state_of c.args.self.now in
     let e = c.in_ok-name.ensures in
     record {
       answer = λ read. name_found (g.S.Source.place c.fed.new.source.below) c.in_ok-name.name c.ok_or_else.result (search rules)

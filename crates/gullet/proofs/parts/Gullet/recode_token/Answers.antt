@@ -12,7 +12,7 @@ returns-in_err-code-clause-onward g c = stays refl
 
 pub returns-clause-does : goal.returns-clause-does
 returns-clause-does g c =
-    let s = state_of g.S.Source.ahead c.args.self.now in
+    let s = state_of c.args.self.now in
     let sc = c.args.scope in
     let some : byte_of (listed c.args.self.now.names) c.args.token ≡ Some c.in_ok-code.code = sym c.byte_of-found.ensures ∙ present _ _ _ _ c.ok_or_else.ensures.cases c.in_ok-code.was in
     does_as (λ z r. recoding_of z sc r (Some c.in_ok-code.code)) (λ z r. recoding_by z sc (Some c.args.token) r)

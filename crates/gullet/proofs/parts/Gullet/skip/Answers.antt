@@ -10,7 +10,7 @@ use Rattle.gullet.proofs.parts.Gullet.skip.Goals as goal
 
 pub returns-clause-finds : goal.returns-clause-finds
 returns-clause-finds g c =
-    let s = state_of g.S.Source.ahead c.args.self.now in
+    let s = state_of c.args.self.now in
     let e = c.fed.ensures in
     let k : c.status-status.result ≡ Skipping = c.status-status.ensures ∙ c.enter-guard.ensures.within in
     record {
