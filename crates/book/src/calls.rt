@@ -1,5 +1,4 @@
-ghost use Rattle.std.specs.Prelude.{◌≡◌, ℕ, ◌+◌, ◌<◌, ◌≤◌, true, IfOk, Ok, vec_len, OnOk};
-ghost use Rattle.tables.specs.Table.{State};
+ghost use Rattle.std.specs.Prelude.{◌≡◌, ◌+◌, ◌<◌, ◌≤◌, true, IfOk, Ok, vec_len, OnOk};
 ghost use Rattle.book.specs.Books.{is_innermost, new_book, open_answer, after_open, close_answer, after_close, name_answer, after_name, code_answer, after_code, if_room, define_answer, after_define};
 ghost use Rattle.book.specs.Meanings.{plain};
 ghost use Rattle.book.specs.Said.{book_of};

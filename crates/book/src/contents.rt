@@ -1,4 +1,4 @@
-ghost use Rattle.std.specs.Prelude.{◌≡◌, ℕ, vec_len};
+ghost use Rattle.std.specs.Prelude.{◌≡◌, vec_len};
 ghost use Rattle.tables.specs.Reading.{Holds};
 ghost use Rattle.book.specs.Meanings.{within};
 ghost use Rattle.book.specs.Tabled.{state_of, size, depth};

@@ -1,7 +1,7 @@
-ghost use Rattle.std.specs.Prelude.{◌≡◌, ℕ, ◌<◌, IfOk, map, vec_len, slice_index_or};
+ghost use Rattle.std.specs.Prelude.{◌≡◌, IfOk, map};
 ghost use Rattle.std.specs.List.{range_with_len};
 ghost use Rattle.book.specs.Primitives.{primitive_of};
-ghost use Rattle.tokens.specs.Firsts.{first_category, first_categories};
+ghost use Rattle.tokens.specs.Firsts.{first_categories};
 ghost use Rattle.book.specs.Firsts.{plain_first};
 
 use crate::meaning::{Held, Plain, Primitive};

@@ -1,4 +1,4 @@
-ghost use Rattle.std.specs.Prelude.{◌≡◌, ℕ, ◌≤◌, true, reverse, vec_len};
+ghost use Rattle.std.specs.Prelude.{◌≡◌, ◌≤◌, true, reverse, vec_len};
 ghost use Rattle.book.specs.Bases.{bounded, keys_below};
 ghost use Rattle.book.specs.Entried.{count};
 

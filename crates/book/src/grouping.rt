@@ -1,5 +1,5 @@
-ghost use Rattle.std.specs.Prelude.{◌≡◌, ℕ, ◌+◌, ◌-◌, ◌<◌, ◌≤◌, true, List, reverse, take, drop, IfOk, vec_len, vec_capacity, slice_index_or};
-ghost use Rattle.tables.specs.Table.{State, put, undone, opened, closed, tried, records, needs_record, recorded, assign_locally, new as new_table};
+ghost use Rattle.std.specs.Prelude.{◌≡◌, ◌+◌, ◌-◌, ◌<◌, ◌≤◌, true, reverse, take, drop, IfOk, vec_len, vec_capacity, slice_index_or};
+ghost use Rattle.tables.specs.Table.{put, undone, opened, closed, tried, records, needs_record, recorded, assign_locally, new as new_table};
 ghost use Rattle.book.specs.Bases.{keys_below};
 ghost use Rattle.book.specs.Scopes.{operation, record_answer};
 ghost use Rattle.book.specs.Entried.{table_of, count};

@@ -1,5 +1,5 @@
 ghost use Rattle.std.specs.Prelude.{◌≡◌, ℕ, ◌<◌, length, slice_index_or};
-ghost use Rattle.tables.specs.Table.{State, records};
+ghost use Rattle.tables.specs.Table.{records};
 ghost use Rattle.book.specs.Books.{innermost};
 ghost use Rattle.book.specs.Meanings.{shown};
 ghost use Rattle.book.specs.Said.{book_of};

@@ -1,4 +1,4 @@
-ghost use Rattle.std.specs.Prelude.{◌≡◌, ℕ, ◌+◌, ◌≤◌, true, List, [], ◌++◌, length, IfOk, vec_len};
+ghost use Rattle.std.specs.Prelude.{◌≡◌, ◌+◌, ◌≤◌, true, [], ◌++◌, length, IfOk, vec_len};
 ghost use Rattle.book.specs.Meanings.{part, means_of, shown, within};
 
 use crate::meaning::{Definition, Held, Macro, Meaning, Plain, Span};
