@@ -68,7 +68,10 @@ impl Expansion {
             match *word {
                 BodyWord::Token(token) => self.tokens.held.push_reserved(token),
                 BodyWord::Reference(reference) => {
-                    let _ = self.tokens.held.extend_from_slice(referred(arguments, reference));
+                    let _ = self
+                        .tokens
+                        .held
+                        .extend_from_slice(referred(arguments, reference));
                 }
             }
         }

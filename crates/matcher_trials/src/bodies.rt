@@ -1,4 +1,4 @@
-use crate::trying::{Trial, text};
+use crate::trying::text;
 use driving::Scan;
 use expanding::{Expansion, TooLong, expansion_length};
 use matcher::{Arguments, ParameterText, matched};
@@ -8,7 +8,7 @@ use std::test::Fail;
 use tokens::{BodyWord, Category, ParameterWord, Token, TokenCategory};
 
 // The two arguments ab and none.
-fn two(heap: Global) -> Result<Arguments, Trial> {
+fn two(heap: Global) -> Result<Arguments, Fail> {
     let mut names = Names::new(heap)?;
     let mut arguments = Arguments::new(heap)?;
     let mut scan = Scan::new();

@@ -1,4 +1,4 @@
-use crate::trying::{Trial, text, tried};
+use crate::trying::{text, tried};
 use driving::Scan;
 use matcher::{Arguments, ParameterText, matched};
 use names::Names;
@@ -9,15 +9,15 @@ use std::test::Fail;
 use tokens::{Category, ParameterWord, Token, TokenCategory};
 
 // A text with so many letters in front.
-fn letters(heap: Global, count: usize, bytes: &[u8]) -> Result<PutBack<Text>, Trial> {
+fn letters(heap: Global, count: usize, bytes: &[u8]) -> Result<PutBack<Text>, Fail> {
     let mut pile = PutBack::new(heap, text(heap, bytes)?)?;
     let tokens = vec![in heap; Token::Character(TokenCategory::Letter, b'a'); count]?;
-    pile.put_back(tokens.as_slice()).map_err(|_| Trial::NoText)?;
+    pile.put_back(tokens.as_slice())?;
     Ok(pile)
 }
 
 // How many tokens the one argument has that is read up to an x, if there is one.
-fn counted(heap: Global, source: &mut PutBack<Text>) -> Result<Option<usize>, Trial> {
+fn counted(heap: Global, source: &mut PutBack<Text>) -> Result<Option<usize>, Fail> {
     let mut names = Names::new(heap)?;
     let mut arguments = Arguments::new(heap)?;
     let mut scan = Scan::new();

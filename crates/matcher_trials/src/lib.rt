@@ -9,6 +9,5 @@ mod counts;
 mod divisions;
 #[cfg(test)]
 mod refusals;
+#[cfg(test)]
 mod trying;
-
-pub use trying::Trial;

@@ -2,38 +2,18 @@ use calls::MatcherFault;
 use driving::{Scan, Status};
 use matcher::{Arguments, ParameterText, matched};
 use names::Names;
-use sources::{MakeFault, Source, Text};
+use sources::{Source, Text};
 use std::alloc::{AllocError, Global};
+use std::fmt::Write;
+use std::test::Fail;
 use tokens::{Category, ParameterWord, Token, TokenCategory};
 
-// Why a trial cannot be run.
-#[derive(Clone, Copy, Debug)]
-pub enum Trial {
-    NoMemory,
-    NoText,
-}
-
-impl From<AllocError> for Trial {
-    fn from(_: AllocError) -> Trial {
-        Trial::NoMemory
-    }
-}
-
-impl From<MakeFault> for Trial {
-    fn from(fault: MakeFault) -> Trial {
-        match fault {
-            MakeFault::NoMemory => Trial::NoMemory,
-            MakeFault::Refused(_) => Trial::NoText,
-        }
-    }
-}
-
-pub(crate) fn text(heap: Global, bytes: &[u8]) -> Result<Text, Trial> {
+pub(crate) fn text(heap: Global, bytes: &[u8]) -> Result<Text, Fail> {
     Ok(Text::new(heap, bytes.to_vec(heap)?)?)
 }
 
 // A parameter text by bytes: # for a parameter, $ for the name 257, and other bytes for characters.
-pub(crate) fn word(byte: u8) -> ParameterWord {
+fn word(byte: u8) -> ParameterWord {
     match byte {
         b'#' => ParameterWord::Parameter,
         b'$' => ParameterWord::Token(Token::Name(257)),
@@ -44,14 +24,14 @@ pub(crate) fn word(byte: u8) -> ParameterWord {
     }
 }
 
-fn written_token(heap: Global, token: Token) -> Result<String, AllocError> {
+fn write_token(written: &mut String, token: Token) -> Result<(), AllocError> {
     match token {
-        Token::Name(number) => format!(in heap; "<{number}>"),
-        Token::Character(_, code) => format!(in heap; "{code:02x}"),
+        Token::Name(number) => write!(written, "<{number}>"),
+        Token::Character(_, code) => write!(written, "{code:02x}"),
     }
 }
 
-fn written_status(status: Status) -> &'static str {
+fn status_name(status: Status) -> &'static str {
     match status {
         Status::Normal => "normal",
         Status::Matching => "matching",
@@ -61,26 +41,23 @@ fn written_status(status: Status) -> &'static str {
 }
 
 // Arguments in brackets, by the codes of their characters and the numbers of their names.
-pub(crate) fn written(heap: Global, arguments: &Arguments) -> Result<String, AllocError> {
-    let mut all = String::new(heap);
+fn write_arguments(written: &mut String, arguments: &Arguments) -> Result<(), AllocError> {
     for n in 0..arguments.len() {
-        all.push_str("[")?;
-        if let Some(tokens) = arguments.get(n) {
-            for token in tokens {
-                all.push_str(written_token(heap, *token)?.as_str())?;
-            }
+        write!(written, "[")?;
+        for token in arguments.get(n).unwrap_or(&[]) {
+            write_token(written, *token)?;
         }
-        all.push_str("]")?;
+        write!(written, "]")?;
     }
-    Ok(all)
+    Ok(())
 }
 
-fn written_fault(heap: Global, fault: MatcherFault) -> Result<String, AllocError> {
+fn write_fault(written: &mut String, fault: MatcherFault) -> Result<(), AllocError> {
     let number = fault.number();
     let line = fault.place().line;
     let bytes = fault.place().bytes;
-    let status = written_status(fault.status());
-    format!(in heap; "{number}@{line}.{bytes} {status}")
+    let status = status_name(fault.status());
+    write!(written, "{number}@{line}.{bytes} {status}")
 }
 
 // What is read from a source for a macro; the scanning status before is that of a definition.
@@ -89,7 +66,7 @@ pub(crate) fn tried<S: Source>(
     source: &mut S,
     long: bool,
     parameters: &[u8],
-) -> Result<String, Trial> {
+) -> Result<String, Fail> {
     let table = Category::first_table();
     let mut names = Names::new(heap)?;
     let words: Vec<ParameterWord> = parameters.iter().map(|byte| word(*byte)).collect(heap)?;
@@ -108,12 +85,14 @@ pub(crate) fn tried<S: Source>(
         &mut arguments,
     );
     if scan.status != Status::Defining {
-        return Err(Trial::NoText);
+        return Err(Fail::new("the scanning status is not what it was"));
     }
-    Ok(match answer {
-        Ok(()) => written(heap, &arguments)?,
-        Err(fault) => written_fault(heap, fault)?,
-    })
+    let mut written = String::new(heap);
+    match answer {
+        Ok(()) => write_arguments(&mut written, &arguments)?,
+        Err(fault) => write_fault(&mut written, fault)?,
+    }
+    Ok(written)
 }
 
 pub(crate) fn tried_text(
@@ -121,7 +100,7 @@ pub(crate) fn tried_text(
     bytes: &[u8],
     long: bool,
     parameters: &[u8],
-) -> Result<String, Trial> {
+) -> Result<String, Fail> {
     let mut source = text(heap, bytes)?;
     tried(heap, &mut source, long, parameters)
 }
