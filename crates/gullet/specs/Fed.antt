@@ -12,8 +12,6 @@ use Rattle.names.specs.Naming.{Spellings}
 use Rattle.names.specs.Spelled.{listed}
 use Rattle.piles.specs.declared.put_back.PutBack.{PutBack}
 use Rattle.piles.specs.Helds.{held_tokens}
-use Rattle.piles.specs.Joins.{Reading}
-use Rattle.sources.specs.declared.fault.Place.{Place}
 use Rattle.sources.specs.declared.fault.PileFault.{PileFault}
 use Rattle.sources.specs.declared.source.Source.{Ghosts}
 use Rattle.book.specs.Books.{BookState}
@@ -35,7 +33,7 @@ pub record Drives {S P O : Type 0} (source : Ghosts S) (cs : Categories) (ns ms 
   pub items : source.ahead new ≡ (stands_at (drive feed (on start) (standing ns (source.ahead old)) (stream cs ns (source.ahead old)))).items
   pub reached : Reached (source.reads cs) feed (on start) ns (stream cs ns (source.ahead old)) old new
 
-pub record Feeds {S P O : Type 0} (ahead : S → List Item) (place : S → Place) (reads : Reading S) (book : BookState) (ns ms : Names) (old new : PutBack S) (result : Result O PileFault) (feed : P → Token → Move P O) (start : P) : Type 0 where
-  pub answer : (read : List Token) → result ≡ answer_of (place new.below) (drive feed (on start) (reader (position_of ahead ns old) read) (stream_at (categories_of book) (position_of ahead ns old) read))
-  pub stands : (read : List Token) → position_of ahead ms new ≡ (stands_at (drive feed (on start) (reader (position_of ahead ns old) read) (stream_at (categories_of book) (position_of ahead ns old) read))).stands
-  pub onward : Onward (reads (categories_of book)) old.below new.below
+pub record Feeds {S P O : Type 0} (source : Ghosts S) (book : BookState) (ns ms : Names) (old new : PutBack S) (result : Result O PileFault) (feed : P → Token → Move P O) (start : P) : Type 0 where
+  pub answer : (read : List Token) → result ≡ answer_of (source.place new.below) (drive feed (on start) (reader (position_of source.ahead ns old) read) (stream_at (categories_of book) (position_of source.ahead ns old) read))
+  pub stands : (read : List Token) → position_of source.ahead ms new ≡ (stands_at (drive feed (on start) (reader (position_of source.ahead ns old) read) (stream_at (categories_of book) (position_of source.ahead ns old) read))).stands
+  pub onward : Onward (source.reads (categories_of book)) old.below new.below

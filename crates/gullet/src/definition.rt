@@ -45,7 +45,7 @@ pub(crate) fn read_definition<S: Source>(
     names: &mut Names,
     draft: &mut Draft,
 ) -> Result<DefinitionEnd, PileFault>
-    ensures { Feeds S.Source.ahead S.Source.place S.Source.reads (book_of book.now) names.old names.new source.old source.new (defined_of result draft.new) (definition_feed (meanings_of (book_of book.now))) (in_text [] 0) }
+    ensures { Feeds S.Source (book_of book.now) names.old names.new source.old source.new (defined_of result draft.new) (definition_feed (meanings_of (book_of book.now))) (in_text [] 0) }
 {
     drafted(source, categories(book), names, book, draft)
 }

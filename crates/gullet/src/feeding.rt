@@ -27,7 +27,7 @@ pub(crate) fn fed<S: Source, A: Automaton>(
     start: A::Phase,
 ) -> Result<A::Outcome, PileFault>
     requires { (n : ℕ) → n < A.Automaton.held rule.now start + (4096 + S.Source.most) → A.Automaton.bears n }
-    ensures { Feeds S.Source.ahead S.Source.place S.Source.reads (book_of book.now) names.old names.new source.old source.new result (A.Automaton.feeds rule.now) start }
+    ensures { Feeds S.Source (book_of book.now) names.old names.new source.old source.new result (A.Automaton.feeds rule.now) start }
 {
     driven(source, categories(book), names, rule, start)
 }
