@@ -19,7 +19,7 @@ use tokens::{BodyWord, Category, GroupKind, ParameterWord, Scope};
 const DEFINITION: usize = 2048;
 
 impl Book {
-    // A new book. All the memory that it will ever use is taken here.
+    /// A new book. All the memory that it will ever use is taken here.
     pub fn new(heap: Global) -> Result<Book, AllocError>
         ensures { IfOk result (λ b. book_of b ≡ new_book) }
     {
@@ -35,7 +35,7 @@ impl Book {
         })
     }
 
-    // Opens a group, for names and codes alike.
+    /// Opens a group, for names and codes alike.
     pub fn open(&mut self, kind: GroupKind) -> Result<(), BookFault>
         ensures answer { result ≡ open_answer (book_of self.old) }
         ensures state { book_of self.new ≡ after_open kind (book_of self.old) }
@@ -57,7 +57,7 @@ impl Book {
         self.innermost() == Some(kind)
     }
 
-    // Closes the innermost group, if it is of the kind, for names and codes alike.
+    /// Closes the innermost group, if it is of the kind, for names and codes alike.
     pub fn close(&mut self, kind: GroupKind) -> Result<(), BookFault>
         ensures answer { result ≡ close_answer kind (book_of self.old) }
         ensures state { book_of self.new ≡ after_close kind (book_of self.old) }
@@ -71,7 +71,7 @@ impl Book {
         Ok(())
     }
 
-    // Gives a code a category.
+    /// Gives a code a category.
     pub fn assign_category(
         &mut self,
         code: u8,
@@ -84,7 +84,7 @@ impl Book {
         self.codes.assign(code as usize, category, scope)
     }
 
-    // Gives a name a meaning without words.
+    /// Gives a name a meaning without words.
     pub fn assign_meaning(
         &mut self,
         name: u16,
@@ -98,7 +98,7 @@ impl Book {
             .assign(name as usize, Held::Plain(meaning), scope)
     }
 
-    // Gives a name what another name means now. A macro's words are shared.
+    /// Gives a name what another name means now. A macro's words are shared.
     pub fn assign_alike(&mut self, name: u16, other: u16, scope: Scope) -> Result<(), BookFault>
         ensures answer { result ≡ name_answer scope name ((book_of self.old).names.table other).value (book_of self.old) }
         ensures state { book_of self.new ≡ after_name scope name ((book_of self.old).names.table other).value (book_of self.old) }
@@ -121,7 +121,7 @@ impl Book {
         Ok(())
     }
 
-    // Gives a name a macro: long or not, a parameter text and a body.
+    /// Gives a name a macro: long or not, a parameter text and a body.
     pub fn define(
         &mut self,
         name: u16,

@@ -11,7 +11,7 @@ use crate::words::Words;
 use buffers::Buffer;
 use tokens::{Category, GroupKind};
 
-// What names mean and which category each code has, the kinds of the open groups, the outermost first, and the words of definitions.
+/// What names mean and which category each code has, the kinds of the open groups, the outermost first, and the words of definitions.
 #[derive(Drop)]
 pub struct Book {
     pub(crate) names: Grouped<Held>,

@@ -3,7 +3,7 @@ ghost use Rattle.book.specs.Faults.{number_of, layer_of};
 
 use tokens::Layer;
 
-// What the book refuses, with its number.
+/// What the book refuses, with its number.
 #[derive(Clone, Copy, Debug, PartialEq, Eq)]
 pub enum BookFault {
     WrongGroup = 36,
@@ -22,7 +22,7 @@ impl From<BookFault> for u8 {
 }
 
 impl BookFault {
-    // Every fault here is the book's own.
+    /// Every fault here is the book's own.
     pub fn layer(self) -> Layer
         ensures { result ≡ layer_of self }
     {

@@ -1,4 +1,4 @@
-// The book: groups, what names mean and which category each code has, and the words of definitions.
+//! The book: groups, what names mean and which category each code has, and the words of definitions.
 #![tactic(auto)]
 
 mod calls;

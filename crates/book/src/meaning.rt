@@ -4,7 +4,7 @@ ghost use Rattle.book.specs.Primitives.{primitive_number, primitive_of};
 
 use tokens::{BodyWord, ParameterWord, TokenCategory, Unknown};
 
-// What a name can mean that no definition made, with the number of the name that means it at first.
+/// What a name can mean that no definition made, with the number of the name that means it at first.
 #[derive(Clone, Copy, Debug, PartialEq, Eq)]
 pub enum Primitive {
     Relax = 256,
@@ -25,7 +25,7 @@ pub enum Primitive {
     Fi = 271,
 }
 
-// A meaning that has no words.
+/// A meaning that has no words.
 #[derive(Clone, Copy, Debug, PartialEq, Eq)]
 pub enum Plain {
     Undefined,
@@ -55,7 +55,7 @@ pub(crate) enum Held {
     Macro(Macro),
 }
 
-// A macro with its words.
+/// A macro with its words.
 #[derive(Clone, Copy, Debug, PartialEq, Eq)]
 pub struct Definition<'a> {
     pub long: bool,
@@ -63,7 +63,7 @@ pub struct Definition<'a> {
     pub body: &'a [BodyWord],
 }
 
-// What a name means.
+/// What a name means.
 #[derive(Clone, Copy, Debug, PartialEq, Eq)]
 pub enum Meaning<'a> {
     Undefined,

@@ -1,4 +1,4 @@
-// The book at its limits, and groups with local and global assignments.
+//! The book at its limits, and groups with local and global assignments.
 #![tactic(auto)]
 
 #[cfg(test)]

@@ -1,11 +1,11 @@
-// Buffers whose memory is taken once and for all.
+//! Buffers whose memory is taken once and for all.
 #![tactic(auto)]
 
 ghost use Rattle.std.specs.Prelude.{◌≡◌, ◌≤◌, [], IfOk, vec_capacity};
 
 use std::alloc::{AllocError, Global};
 
-// Values one behind another, with memory for `ROOM` of them.
+/// Values one behind another, with memory for `ROOM` of them.
 #[derive(Drop)]
 pub struct Buffer<T, const ROOM: usize> {
     pub held: Vec<T>,
@@ -13,7 +13,7 @@ pub struct Buffer<T, const ROOM: usize> {
 }
 
 impl<T, const ROOM: usize> Buffer<T, ROOM> {
-    // Nothing yet. All its memory is taken here.
+    /// Nothing yet. All its memory is taken here.
     pub fn new(heap: Global) -> Result<Buffer<T, ROOM>, AllocError>
         ensures { IfOk result (λ buffer. buffer.held.items ≡ []) }
     {

@@ -5,7 +5,7 @@ use driving::Status;
 use matching::MatcherRefusal;
 use sources::{PileFault, Place};
 
-// Why a call's arguments cannot be read. It keeps the whole fault of the pile below.
+/// Why a call's arguments cannot be read. It keeps the whole fault of the pile below.
 #[derive(Clone, Copy, Debug, PartialEq, Eq)]
 pub enum MatcherCause {
     Pile(PileFault),
@@ -20,7 +20,7 @@ impl From<PileFault> for MatcherCause {
     }
 }
 
-// A fault of the matcher, with the scanning status in which it came.
+/// A fault of the matcher, with the scanning status in which it came.
 #[derive(Clone, Copy, Debug, PartialEq, Eq)]
 pub struct MatcherFault {
     pub cause: MatcherCause,

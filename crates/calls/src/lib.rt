@@ -1,4 +1,4 @@
-// What keeps a macro call's arguments from being read.
+//! What keeps a macro call's arguments from being read.
 #![tactic(auto)]
 
 mod fault;

@@ -1,4 +1,4 @@
-// Rules that read several tokens: the tokens ahead one by one, and the scanning status meanwhile.
+//! Rules that read several tokens: the tokens ahead one by one, and the scanning status meanwhile.
 #![tactic(auto)]
 
 mod status;

@@ -1,7 +1,7 @@
 ghost use Rattle.std.specs.Prelude.{◌≡◌};
 ghost use Rattle.driving.specs.declared.status.Status.TheVariants.{Normal};
 
-// What reading is for at present: a step on its own, a macro's arguments, a definition, or a part that is skipped.
+/// What reading is for at present: a step on its own, a macro's arguments, a definition, or a part that is skipped.
 #[derive(Clone, Copy, Debug, PartialEq, Eq)]
 pub enum Status {
     Normal,
@@ -10,7 +10,7 @@ pub enum Status {
     Skipping,
 }
 
-// The record of the scanning status.
+/// The record of the scanning status.
 #[derive(Clone, Copy, Debug, PartialEq, Eq)]
 pub struct Scan {
     pub status: Status,
@@ -26,7 +26,7 @@ impl Scan {
     }
 }
 
-// Sets the scanning status, and puts back the one before when it goes.
+/// Sets the scanning status, and puts back the one before when it goes.
 pub struct Guard<'a> {
     scan: &'a mut Scan,
     before: Scan,

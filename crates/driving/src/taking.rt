@@ -5,8 +5,8 @@ use names::Names;
 use sources::{PileFault, PileRefusal, Source};
 use tokens::{Category, Token};
 
-// The next token, where one is needed: with nothing ahead it is refused 25.
-// Three parameters. One struct of them was tried: then each contract, and each loop, has to say that its borrows stay the same ones.
+/// The next token, where one is needed: with nothing ahead it is refused 25.
+/// Three parameters. One struct of them was tried: then each contract, and each loop, has to say that its borrows stay the same ones.
 pub fn needed<S: Source>(
     source: &mut S,
     categories: &[Category; 256],

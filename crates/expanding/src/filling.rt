@@ -9,7 +9,7 @@ use std::alloc::{AllocError, Global};
 use tokens::{BodyWord, Token};
 
 impl Expansion {
-    // No tokens, and memory for as many as there may be.
+    /// No tokens, and memory for as many as there may be.
     pub fn new(heap: Global) -> Result<Expansion, AllocError>
         ensures { IfOk result (λ e. expansion_of e ≡ []) }
     {
@@ -44,7 +44,7 @@ fn word_length(arguments: &Arguments, word: BodyWord) -> usize
     }
 }
 
-// How many tokens a body gives with these arguments; none where there are more than 4,096.
+/// How many tokens a body gives with these arguments; none where there are more than 4,096.
 pub fn expansion_length(arguments: &Arguments, body: &[BodyWord]) -> Option<usize>
     ensures { result ≡ (if nat_le (length (substituted (arguments_of arguments.now) body.now)) 4096 then Some (length (substituted (arguments_of arguments.now) body.now)) else None) }
 {
@@ -77,7 +77,7 @@ impl Expansion {
         }
     }
 
-    // Writes the tokens that a body gives with these arguments; where they do not fit, none are written.
+    /// Writes the tokens that a body gives with these arguments; where they do not fit, none are written.
     pub fn substitute(&mut self, arguments: &Arguments, body: &[BodyWord]) -> Result<(), TooLong>
         ensures answer { result ≡ (if nat_le (length (substituted (arguments_of arguments.now) body.now)) 4096 then Ok tt else Err (record {})) }
         ensures tokens { expansion_of self.new ≡ (if nat_le (length (substituted (arguments_of arguments.now) body.now)) 4096 then substituted (arguments_of arguments.now) body.now else []) }

@@ -1,4 +1,4 @@
-// The expansion of a macro's body with the arguments of a call.
+//! The expansion of a macro's body with the arguments of a call.
 #![tactic(auto)]
 
 mod expansion;

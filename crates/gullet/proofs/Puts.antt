@@ -26,4 +26,4 @@ puts_both ws rs held h =
     rw (first, all) (ap (held_after (rs ++ held)) second ∙ sym (append_assoc ws rs held))
 
 pub held_few : (h : Held) → length (held_tokens h) ≤ 4096
-held_few h = let e = h.tokens.ok.0 in let f = h.few in omega (arith, length-reverse (vec_items h.tokens))
+held_few h = let e = h.tokens.held.ok.0 in let f = h.few in omega (arith, length-reverse (vec_items h.tokens.held))

@@ -8,7 +8,7 @@ use matching::MatcherRefusal;
 use rules::GulletRefusal;
 use sources::{PileFault, Place};
 
-// Why a call is refused: the whole fault of the pile below, or a refusal with its place.
+/// Why a call is refused: the whole fault of the pile below, or a refusal with its place.
 #[derive(Clone, Copy, Debug, PartialEq, Eq)]
 pub enum Cause {
     Pile(PileFault),
@@ -17,7 +17,7 @@ pub enum Cause {
     Gullet(GulletRefusal, Place),
 }
 
-// A refused call, with the scanning status in which it came.
+/// A refused call, with the scanning status in which it came.
 #[derive(Clone, Copy, Debug, PartialEq, Eq)]
 pub struct GulletFault {
     pub cause: Cause,

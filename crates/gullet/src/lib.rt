@@ -1,4 +1,4 @@
-// The gullet: steps and outside calls over any source. So far its parts and its reading; no call is here yet.
+//! The gullet: steps and outside calls over any source. So far its parts and its reading; no call is here yet.
 #![tactic(auto)]
 
 mod assigning;

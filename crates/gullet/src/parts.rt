@@ -13,7 +13,7 @@ use piles::PutBack;
 use sources::Source;
 use tokens::Token;
 
-// A gullet over any source, with its own put-back on top. Between calls the scanning status is normal.
+/// A gullet over any source, with its own put-back on top. Between calls the scanning status is normal.
 #[derive(Drop)]
 pub struct Gullet<S: Source> {
     pub(crate) source: PutBack<S>,

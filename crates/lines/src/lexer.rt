@@ -76,7 +76,7 @@ fn piece_by<'a>(
     }
 }
 
-// The next piece of a line, with the number of bytes it takes.
+/// The next piece of a line, with the number of bytes it takes.
 pub fn lexed<'a>(
     line: &'a [u8],
     state: LineState,

@@ -1,4 +1,4 @@
-// Pieces of a line: what the next bytes of a line give, by the line's state and the bytes' categories.
+//! Pieces of a line: what the next bytes of a line give, by the line's state and the bytes' categories.
 #![tactic(auto)]
 
 mod lexer;

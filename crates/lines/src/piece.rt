@@ -4,7 +4,7 @@ ghost use Rattle.lines.specs.Line.{behind_byte, behind_name, state_after};
 
 use tokens::{Category, TokenCategory};
 
-// Where a line stands: nothing taken yet but blanks, in the middle, or after a blank or a name.
+/// Where a line stands: nothing taken yet but blanks, in the middle, or after a blank or a name.
 #[derive(Clone, Copy, Debug, PartialEq, Eq)]
 pub enum LineState {
     NewLine,
@@ -12,7 +12,7 @@ pub enum LineState {
     SkipBlanks,
 }
 
-// What the next bytes of a line give. A name is the part of the line that spells it.
+/// What the next bytes of a line give. A name is the part of the line that spells it.
 #[derive(Clone, Copy, Debug, PartialEq, Eq)]
 pub enum Piece<'a> {
     Character(TokenCategory, u8),
@@ -44,7 +44,7 @@ fn behind_name(part: &[u8], state: LineState, categories: &[Category; 256]) -> L
 }
 
 impl Piece<'_> {
-    // The state of the line behind this piece.
+    /// The state of the line behind this piece.
     pub fn state_after(self, state: LineState, categories: &[Category; 256]) -> LineState
         ensures { result ≡ state_after categories.now state (shown self.entry) }
     {

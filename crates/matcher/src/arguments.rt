@@ -11,7 +11,7 @@ pub(crate) const TOKENS_LIMIT: usize = 6_145;
 
 pub(crate) type Gathered = Buffer<Token, TOKENS_LIMIT>;
 
-// A call's arguments: their tokens one behind another, and where each stands. All memory is taken at first.
+/// A call's arguments: their tokens one behind another, and where each stands. All memory is taken at first.
 #[derive(Drop)]
 pub struct Arguments {
     pub(crate) gathered: Gathered,

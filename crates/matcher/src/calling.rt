@@ -15,7 +15,7 @@ use names::Names;
 use sources::Source;
 use tokens::Category;
 
-// Reads the arguments of a macro's call from a source. Where there is a fault no arguments are left.
+/// Reads the arguments of a macro's call from a source. Where there is a fault no arguments are left.
 pub fn matched<S: Source>(
     source: &mut S,
     categories: &[Category; 256],

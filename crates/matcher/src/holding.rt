@@ -9,7 +9,7 @@ use std::alloc::{AllocError, Global};
 use tokens::Token;
 
 impl Arguments {
-    // No arguments, and memory for those of any call.
+    /// No arguments, and memory for those of any call.
     pub fn new(heap: Global) -> Result<Arguments, AllocError>
         ensures { IfOk result (λ a. arguments_of a ≡ []) }
     {
@@ -19,14 +19,14 @@ impl Arguments {
         })
     }
 
-    // How many arguments there are.
+    /// How many arguments there are.
     pub fn len(&self) -> usize
         ensures { result ≡ length (arguments_of self.now) }
     {
         self.spans.held.len()
     }
 
-    // The tokens of an argument, from 0.
+    /// The tokens of an argument, from 0.
     pub fn get(&self, n: usize) -> Option<&[Token]>
         ensures { option_map (λ x. x.now) result ≡ slice_get (arguments_of self.now) n }
     {

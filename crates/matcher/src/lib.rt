@@ -1,4 +1,4 @@
-// The arguments of a macro call, read from any source of tokens.
+//! The arguments of a macro call, read from any source of tokens.
 #![tactic(auto)]
 
 mod allowing;

@@ -9,7 +9,7 @@ pub(crate) const WORDS_LIMIT: usize = 2_048;
 // The most parameters of a macro.
 pub(crate) const PARAMETERS_LIMIT: usize = 9;
 
-// A parameter text that a macro may have.
+/// A parameter text that a macro may have.
 #[derive(Clone, Copy, Debug, PartialEq, Eq)]
 pub struct ParameterText<'a> {
     pub(crate) words: &'a [ParameterWord],
@@ -18,6 +18,6 @@ pub struct ParameterText<'a> {
     ghost plain: { has_closing words.now ≡ false },
 }
 
-// Words are not a parameter text that a macro may have.
+/// Words are not a parameter text that a macro may have.
 #[derive(Clone, Copy, Debug, PartialEq, Eq)]
 pub struct NoText;

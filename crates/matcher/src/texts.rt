@@ -24,7 +24,7 @@ fn parameters(words: &[ParameterWord]) -> usize
 }
 
 impl<'a> ParameterText<'a> {
-    // Whether words are a parameter text that a macro may have.
+    /// Whether words are a parameter text that a macro may have.
     #[tactic(auto, using(crate::proofs::Wording::closing_any, crate::proofs::Wording::parameters_count))]
     pub fn may_be(words: &[ParameterWord]) -> bool
         ensures { result ≡ may_be words.now }
@@ -32,7 +32,7 @@ impl<'a> ParameterText<'a> {
         words.len() <= WORDS_LIMIT && parameters(words) <= PARAMETERS_LIMIT && !closes(words)
     }
 
-    // The words as a parameter text; where a macro may not have it, the text of no words.
+    /// The words as a parameter text; where a macro may not have it, the text of no words.
     pub fn of(words: &'a [ParameterWord]) -> ParameterText<'a>
         ensures { result.words.now ≡ (if may_be words.now then words.now else []) }
     {

@@ -1,4 +1,4 @@
-// Calls whose arguments are read, each held to what the rules say.
+//! Calls whose arguments are read, each held to what the rules say.
 #![tactic(auto)]
 
 #[cfg(test)]

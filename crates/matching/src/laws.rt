@@ -6,7 +6,7 @@ ghost use Rattle.matching.specs.Dividing.{Parameters};
 ghost use Rattle.matching.specs.Laws.{Lawful, Laws, TextLaws};
 ghost use Rattle.matching.specs.Worked.{WorkedCases};
 
-// The laws of dividing tokens into arguments stand, and so do the worked cases; tells how many cases there are.
+/// The laws of dividing tokens into arguments stand, and so do the worked cases; tells how many cases there are.
 pub fn division_laws_stand() -> u8
     ensures laws { (p : Parameters) (long : Bool) → Lawful p → Laws p long }
     ensures texts { (text : List ParameterWord) → TextLaws text }

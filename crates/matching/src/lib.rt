@@ -1,4 +1,4 @@
-// How the tokens behind a macro's name are divided into its arguments.
+//! How the tokens behind a macro's name are divided into its arguments.
 #![tactic(auto)]
 
 mod laws;

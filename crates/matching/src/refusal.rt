@@ -1,7 +1,7 @@
 ghost use Rattle.std.specs.Prelude.{◌≡◌};
 ghost use Rattle.matching.specs.Refusals.{refusal_number};
 
-// Why a macro's call has no arguments, with the number that the rules give it.
+/// Why a macro's call has no arguments, with the number that the rules give it.
 #[derive(Clone, Copy, Debug, PartialEq, Eq)]
 pub enum MatcherRefusal {
     // A token differs from the text before the first parameter.

@@ -1,7 +1,7 @@
 ghost use Rattle.std.specs.Prelude.{◌≡◌};
 ghost use Rattle.names.specs.Naming.{fault_number};
 
-// Why a spelling was not entered.
+/// Why a spelling was not entered.
 #[derive(Clone, Copy, Debug, PartialEq, Eq)]
 pub enum NamesFault {
     // It has over 32 bytes.

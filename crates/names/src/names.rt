@@ -5,7 +5,7 @@ ghost use Rattle.names.specs.Naming.{first_names};
 
 use crate::table::Table;
 
-// The spellings that have numbers, those of the sixteen primitives first.
+/// The spellings that have numbers, those of the sixteen primitives first.
 #[derive(Drop)]
 pub struct Names {
     pub(crate) table: Table,

@@ -33,7 +33,7 @@ fn primitives() -> [&'static [u8]; 16]
 }
 
 impl Names {
-    // The names with the primitives' spellings, and memory for all that may come.
+    /// The names with the primitives' spellings, and memory for all that may come.
     pub fn new(heap: Global) -> Result<Names, AllocError>
         ensures made { IfOk result (λ n. listed n ≡ first_names) }
     {
@@ -42,7 +42,7 @@ impl Names {
         Ok(Names { table })
     }
 
-    // The number of a spelling, entered now if it is new.
+    /// The number of a spelling, entered now if it is new.
     pub fn enter(&mut self, spelling: &[u8]) -> Result<u16, NamesFault>
         ensures answer { result ≡ number_of (enter (listed self.old) spelling.now) }
         ensures names { listed self.new ≡ names_after (listed self.old) (enter (listed self.old) spelling.now) }
@@ -50,14 +50,14 @@ impl Names {
         self.table.enter(spelling)
     }
 
-    // The number of a spelling, if it has one.
+    /// The number of a spelling, if it has one.
     pub fn number(&self, spelling: &[u8]) -> Option<u16>
         ensures { result ≡ number_in (listed self.now) spelling.now }
     {
         self.table.sought(spelling)
     }
 
-    // The spelling of a number, if it has one.
+    /// The spelling of a number, if it has one.
     pub fn spelling(&self, number: u16) -> Option<&[u8]>
         ensures { option_map (λ x. x.now) result ≡ spelling_in (listed self.now) number }
     {
@@ -65,7 +65,7 @@ impl Names {
         self.table.spelling_at(usize::from(place))
     }
 
-    // How many numbers are taken, with those of the active characters.
+    /// How many numbers are taken, with those of the active characters.
     pub fn taken(&self) -> u16
         ensures { result ≡ taken_in (listed self.now) }
     {

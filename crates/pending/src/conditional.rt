@@ -1,6 +1,6 @@
 use crate::stack::Stack;
 
-// A conditional is in its first part, or behind its `else`.
+/// A conditional is in its first part, or behind its `else`.
 #[derive(Clone, Copy, Debug, Default, PartialEq, Eq)]
 pub enum Part {
     #[default]
@@ -8,11 +8,11 @@ pub enum Part {
     Second,
 }
 
-// An open conditional.
+/// An open conditional.
 #[derive(Clone, Copy, Debug, Default, PartialEq, Eq)]
 pub struct Conditional {
     pub part: Part,
 }
 
-// The open conditionals, the innermost last: at most 100.
+/// The open conditionals, the innermost last: at most 100.
 pub type Conditionals = Stack<Conditional, 100>;

@@ -1,4 +1,4 @@
-// What an expansion has begun and not ended: the open conditionals, and the tasks under way.
+//! What an expansion has begun and not ended: the open conditionals, and the tasks under way.
 #![tactic(auto)]
 
 mod conditional;

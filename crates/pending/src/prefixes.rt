@@ -4,7 +4,7 @@ ghost use Rattle.pending.specs.Underway.{joint};
 use crate::task::Prefix;
 
 impl Prefix {
-    // The two together.
+    /// The two together.
     pub fn and(self, more: Prefix) -> Prefix
         ensures { result ≡ joint self more }
     {

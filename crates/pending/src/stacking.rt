@@ -10,7 +10,7 @@ use arrayvec::ArrayVec;
 use std::mem;
 
 impl<T: Copy + Default, const LIMIT: usize> Stack<T, LIMIT> {
-    // Nothing is on it yet.
+    /// Nothing is on it yet.
     pub fn new() -> Self
         ensures { items_of result ≡ [] }
     {
@@ -19,28 +19,28 @@ impl<T: Copy + Default, const LIMIT: usize> Stack<T, LIMIT> {
         }
     }
 
-    // How many are on it.
+    /// How many are on it.
     pub fn len(&self) -> usize
         ensures { result ≡ length (items_of self.now) }
     {
         self.held.len()
     }
 
-    // Whether none is on it.
+    /// Whether none is on it.
     pub fn is_empty(&self) -> bool
         ensures { result ≡ (length (items_of self.now) == 0) }
     {
         self.held.is_empty()
     }
 
-    // Whether no more fit.
+    /// Whether no more fit.
     pub fn is_full(&self) -> bool
         ensures { result ≡ nat_le LIMIT (length (items_of self.now)) }
     {
         self.held.is_full()
     }
 
-    // One more, which is then the newest; refused where no more fit.
+    /// One more, which is then the newest; refused where no more fit.
     pub fn push(&mut self, item: T) -> Result<(), Full>
         ensures answer { is_ok result ≡ nat_lt (length (items_of self.old)) LIMIT }
         ensures items { items_of self.new ≡ joining LIMIT item (items_of self.old) }
@@ -48,14 +48,14 @@ impl<T: Copy + Default, const LIMIT: usize> Stack<T, LIMIT> {
         self.held.try_push(item).map_err(|_| Full)
     }
 
-    // The newest, if there is one.
+    /// The newest, if there is one.
     pub fn last(&self) -> Option<T>
         ensures { result ≡ front (items_of self.now) }
     {
         self.held.last().copied()
     }
 
-    // The newest, lent to be changed. By its index: what is written through a loan of the whole slice is not known to come back.
+    /// The newest, lent to be changed. By its index: what is written through a loan of the whole slice is not known to come back.
     pub fn last_mut(&mut self) -> Option<&mut T>
         ensures* lent { sem 𝓛 (follows_if (stack_row T.row LIMIT.row) T.row self.entry.ghost_name (name_of result) (with_newest self.old) self.old) }
         ensures item { option_map (λ x. x.now) result ≡ front (items_of self.old) }
@@ -64,7 +64,7 @@ impl<T: Copy + Default, const LIMIT: usize> Stack<T, LIMIT> {
         self.held.get_mut(last)
     }
 
-    // Another in the place of the newest, if there is one: answers that.
+    /// Another in the place of the newest, if there is one: answers that.
     pub fn replace_last(&mut self, item: T) -> Option<T>
         ensures answer { result ≡ front (items_of self.old) }
         ensures items { items_of self.new ≡ refronted item (items_of self.old) }
@@ -73,7 +73,7 @@ impl<T: Copy + Default, const LIMIT: usize> Stack<T, LIMIT> {
         Some(mem::replace(last, item))
     }
 
-    // Takes the newest away, and answers it.
+    /// Takes the newest away, and answers it.
     pub fn pop(&mut self) -> Option<T>
         ensures answer { result ≡ front (items_of self.old) }
         ensures items { items_of self.new ≡ behind (items_of self.old) }
@@ -81,7 +81,7 @@ impl<T: Copy + Default, const LIMIT: usize> Stack<T, LIMIT> {
         self.held.pop()
     }
 
-    // Takes all away.
+    /// Takes all away.
     pub fn clear(&mut self)
         ensures { items_of self.new ≡ [] }
     {

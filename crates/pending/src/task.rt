@@ -4,14 +4,14 @@ ghost use Rattle.pending.specs.declared.task.Task.TheVariants as task;
 use crate::stack::Stack;
 use tokens::Token;
 
-// What stands before a definition: whether it is made for all groups, and whether its arguments may be long.
+/// What stands before a definition: whether it is made for all groups, and whether its arguments may be long.
 #[derive(Clone, Copy, Debug, Default, PartialEq, Eq)]
 pub struct Prefix {
     pub global: bool,
     pub long: bool,
 }
 
-// A token that waits for the one behind it to be expanded, or a prefix that waits for its definition.
+/// A token that waits for the one behind it to be expanded, or a prefix that waits for its definition.
 #[derive(Clone, Copy, Debug, PartialEq, Eq)]
 pub enum Task {
     After(Token),
@@ -27,9 +27,9 @@ impl Default for Task {
     }
 }
 
-// The tasks under way, the newest last: at most 64.
+/// The tasks under way, the newest last: at most 64.
 pub type Tasks = Stack<Task, 64>;
 
-// The newest task is no prefix.
+/// The newest task is no prefix.
 #[derive(Clone, Copy, Debug, PartialEq, Eq)]
 pub struct NoPrefix;

@@ -6,7 +6,7 @@ use crate::task::{Task, Tasks};
 use tokens::Token;
 
 impl Tasks {
-    // How many tokens wait at the newest end.
+    /// How many tokens wait at the newest end.
     pub fn waiting(&self) -> usize
         ensures { result ≡ length (waiting_of (tasks_of self.now)) }
     {
@@ -17,7 +17,7 @@ impl Tasks {
             .count()
     }
 
-    // Copies the tokens that wait at the newest end behind others, the oldest first: all of them, or none where there is no room.
+    /// Copies the tokens that wait at the newest end behind others, the oldest first: all of them, or none where there is no room.
     pub fn copy_waiting(&self, tokens: &mut Vec<Token>) -> Result<(), Full>
         ensures answer { is_ok result ≡ nat_le (vec_len tokens.old + length (waiting_of (tasks_of self.now))) (vec_capacity tokens.old) }
         ensures tokens { tokens.new.items ≡ tokens.old.items ++ (if is_ok result then waiting_of (tasks_of self.now) else []) }
@@ -35,7 +35,7 @@ impl Tasks {
         Ok(())
     }
 
-    // Ends the tasks of the tokens that wait at the newest end.
+    /// Ends the tasks of the tokens that wait at the newest end.
     pub fn end_waiting(&mut self)
         ensures { tasks_of self.new ≡ beyond_waiting (tasks_of self.old) }
     {

@@ -1,4 +1,4 @@
-// Piles of sources read to their end, each held to what the rules say.
+//! Piles of sources read to their end, each held to what the rules say.
 #![tactic(auto)]
 
 #[cfg(test)]

@@ -5,7 +5,7 @@ pub(crate) enum Side {
     Second,
 }
 
-// A source, and behind its end another.
+/// A source, and behind its end another.
 #[derive(Drop)]
 pub struct Join<A, B> {
     pub(crate) first: A,

@@ -10,7 +10,7 @@ use sources::{PileFault, Place, Source};
 use tokens::{Category, Token};
 
 impl<A: Source, B: Source> Join<A, B> {
-    // Nothing is read yet: the place is the first side's.
+    /// Nothing is read yet: the place is the first side's.
     pub fn new(first: A, second: B) -> Join<A, B>
         ensures first { result.first ≡ first }
         ensures second { result.second ≡ second }

@@ -1,4 +1,4 @@
-// What every pile of sources is made of: one source behind another, and tokens put back in front of one.
+//! What every pile of sources is made of: one source behind another, and tokens put back in front of one.
 #![tactic(auto)]
 
 mod held;

@@ -1,6 +1,6 @@
 use crate::held::Held;
 
-// A source with tokens put back in front of it.
+/// A source with tokens put back in front of it.
 #[derive(Drop)]
 pub struct PutBack<S> {
     pub(crate) held: Held,

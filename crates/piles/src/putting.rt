@@ -13,7 +13,7 @@ use std::alloc::{AllocError, Global};
 use tokens::Token;
 
 impl<S: Source> PutBack<S> {
-    // Nothing is put back yet; there is memory for all that may be.
+    /// Nothing is put back yet; there is memory for all that may be.
     pub fn new(heap: Global, below: S) -> Result<PutBack<S>, AllocError>
     where
         S: Drop,
@@ -25,7 +25,7 @@ impl<S: Source> PutBack<S> {
         })
     }
 
-    // Puts tokens in front, in their order: all of them, or none where they do not fit.
+    /// Puts tokens in front, in their order: all of them, or none where they do not fit.
     pub fn put_back(&mut self, tokens: &[Token]) -> Result<(), PileFault>
         ensures answer { result ≡ put_answer (S.Source.place self.old.below) (put_back tokens.now (held_tokens self.old.held)) }
         ensures held { held_tokens self.new.held ≡ held_after (held_tokens self.old.held) (put_back tokens.now (held_tokens self.old.held)) }
@@ -38,7 +38,7 @@ impl<S: Source> PutBack<S> {
         Ok(())
     }
 
-    // Puts words from outside in front, in their order, once each is known to be a token's.
+    /// Puts words from outside in front, in their order, once each is known to be a token's.
     pub fn insert(&mut self, words: &[u32], names: &Names) -> Result<(), PileFault>
         ensures answer { result ≡ put_answer (S.Source.place self.old.below) (insert (listed names.now) words.now (held_tokens self.old.held)) }
         ensures held { held_tokens self.new.held ≡ held_after (held_tokens self.old.held) (insert (listed names.now) words.now (held_tokens self.old.held)) }
@@ -54,7 +54,7 @@ impl<S: Source> PutBack<S> {
         Ok(())
     }
 
-    // How many tokens are put back.
+    /// How many tokens are put back.
     pub fn held(&self) -> usize
         ensures { result ≡ length (held_tokens self.now.held) }
     {

@@ -1,4 +1,4 @@
-// The rules of the gullet, as definitions with their laws: what every call answers, and the state that it leaves.
+//! The rules of the gullet, as definitions with their laws: what every call answers, and the state that it leaves.
 #![tactic(auto)]
 
 mod phases;

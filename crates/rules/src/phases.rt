@@ -1,21 +1,21 @@
 use pending::Prefix;
 use tokens::{GroupKind, Token};
 
-// What a skip looks for: the \else or the \fi of its conditional, or its \fi alone.
+/// What a skip looks for: the \else or the \fi of its conditional, or its \fi alone.
 #[derive(Clone, Copy, Debug, PartialEq, Eq)]
 pub enum Until {
     ElseOrFi,
     OnlyFi,
 }
 
-// Which of them it found.
+/// Which of them it found.
 #[derive(Clone, Copy, Debug, PartialEq, Eq)]
 pub enum Found {
     Else,
     Fi,
 }
 
-// Where the reading of \let's token is, behind its name.
+/// Where the reading of \let's token is, behind its name.
 #[derive(Clone, Copy, Debug, PartialEq, Eq)]
 pub enum Letting {
     BeforeEquals,
@@ -23,14 +23,14 @@ pub enum Letting {
     BehindSpace,
 }
 
-// Where the reading of \catcode's character is.
+/// Where the reading of \catcode's character is.
 #[derive(Clone, Copy, Debug, PartialEq, Eq)]
 pub enum Subject {
     BeforeQuote,
     BehindQuote,
 }
 
-// Where the reading of \catcode's number is.
+/// Where the reading of \catcode's number is.
 #[derive(Clone, Copy, Debug, PartialEq, Eq)]
 pub enum Number {
     BeforeNumber,
@@ -38,7 +38,7 @@ pub enum Number {
     InDigits(u8),
 }
 
-// An assignment.
+/// An assignment.
 #[derive(Clone, Copy, Debug, PartialEq, Eq)]
 pub enum Assignment {
     // \def, or \gdef, which is global by itself.
@@ -47,7 +47,7 @@ pub enum Assignment {
     Catcode,
 }
 
-// What an unexpandable token does.
+/// What an unexpandable token does.
 #[derive(Clone, Copy, Debug, PartialEq, Eq)]
 pub enum Act {
     Open(GroupKind),

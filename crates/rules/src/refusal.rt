@@ -1,7 +1,7 @@
 ghost use Rattle.std.specs.Prelude.{◌≡◌};
 ghost use Rattle.rules.specs.Refusals.{refusal_number};
 
-// Why the gullet itself refuses, with the number that the rules give it.
+/// Why the gullet itself refuses, with the number that the rules give it.
 #[derive(Clone, Copy, Debug, PartialEq, Eq)]
 pub enum GulletRefusal {
     // A name that means nothing.

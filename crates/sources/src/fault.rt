@@ -4,20 +4,20 @@ ghost use Rattle.sources.specs.declared.fault.ReadRefusal.TheVariants.{Names};
 
 use names::NamesFault;
 
-// Where a source stands. Of a text: the line last read from, from 1, and the bytes taken of it.
+/// Where a source stands. Of a text: the line last read from, from 1, and the bytes taken of it.
 #[derive(Clone, Copy, Debug, PartialEq, Eq)]
 pub struct Place {
     pub line: usize,
     pub bytes: usize,
 }
 
-// Why a line refuses, with the number that the rules give it.
+/// Why a line refuses, with the number that the rules give it.
 #[derive(Clone, Copy, Debug, PartialEq, Eq)]
 pub enum LineRefusal {
     Invalid = 11,
 }
 
-// Why a read is refused: by the line, or by the names for what it spells.
+/// Why a read is refused: by the line, or by the names for what it spells.
 #[derive(Clone, Copy, Debug, PartialEq, Eq)]
 pub enum ReadRefusal {
     Line(LineRefusal),
@@ -32,14 +32,14 @@ impl From<NamesFault> for ReadRefusal {
     }
 }
 
-// A refused read of a line, with the place behind the last byte read.
+/// A refused read of a line, with the place behind the last byte read.
 #[derive(Clone, Copy, Debug, PartialEq, Eq)]
 pub struct LineFault {
     pub refusal: ReadRefusal,
     pub place: Place,
 }
 
-// Why a pile of sources refuses, with the number that the rules give it.
+/// Why a pile of sources refuses, with the number that the rules give it.
 #[derive(Clone, Copy, Debug, PartialEq, Eq)]
 pub enum PileRefusal {
     Ended = 25,
@@ -49,7 +49,7 @@ pub enum PileRefusal {
     TextTooLong = 49,
 }
 
-// A fault of a pile keeps the whole fault of the line below.
+/// A fault of a pile keeps the whole fault of the line below.
 #[derive(Clone, Copy, Debug, PartialEq, Eq)]
 pub enum PileFault {
     Line(LineFault),

@@ -1,4 +1,4 @@
-// Sources of tokens: the interface, the faults of reading, and the text at the bottom.
+//! Sources of tokens: the interface, the faults of reading, and the text at the bottom.
 #![tactic(auto)]
 
 mod cursor;

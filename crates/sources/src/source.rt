@@ -9,7 +9,7 @@ use crate::fault::{PileFault, Place as At};
 use names::Names;
 use tokens::{Category, Token};
 
-// Anything that tokens are read from. Its meaning is the list of items ahead, and a place.
+/// Anything that tokens are read from. Its meaning is the list of items ahead, and a place.
 pub trait Source {
     ghost ahead: { Self → List Item };
 

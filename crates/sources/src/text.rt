@@ -6,7 +6,7 @@ use crate::cursor::Cursor;
 use crate::fault::PileFault;
 use std::alloc::AllocError;
 
-// A text as a source: its bytes, and the line that is being read, as it is made of them.
+/// A text as a source: its bytes, and the line that is being read, as it is made of them.
 #[derive(Drop)]
 pub struct Text {
     pub(crate) bytes: Vec<u8>,
@@ -22,7 +22,7 @@ pub struct Text {
     ghost begun: { Begun bytes.items next line.items number },
 }
 
-// Why a text cannot be made.
+/// Why a text cannot be made.
 #[derive(Clone, Copy, Debug, PartialEq, Eq)]
 pub enum MakeFault {
     NoMemory,

@@ -39,7 +39,7 @@ fn first_line(line: &mut Vec<u8>, rest: &[u8]) -> usize
 }
 
 impl Text {
-    // A text of at most 65,536 bytes, with all the memory that reading it takes.
+    /// A text of at most 65,536 bytes, with all the memory that reading it takes.
     pub fn new(heap: Global, bytes: Vec<u8>) -> Result<Text, MakeFault>
         ensures { MadeText bytes.items result }
     {

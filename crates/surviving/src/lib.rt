@@ -1,4 +1,4 @@
-// What is found after any list of calls, by a diary of them.
+//! What is found after any list of calls, by a diary of them.
 #![tactic(auto)]
 
 mod laws;

@@ -1,7 +1,7 @@
 use crate::category::Category;
 use crate::token::Token;
 
-// How a group was begun, with the number that a word has for it.
+/// How a group was begun, with the number that a word has for it.
 #[derive(Clone, Copy, Debug, PartialEq, Eq)]
 pub enum GroupKind {
     Brace = 0,
@@ -15,7 +15,7 @@ pub enum Scope {
     Global,
 }
 
-// What an assignment gave a value to: a name, or a code with its new category.
+/// What an assignment gave a value to: a name, or a code with its new category.
 #[derive(Clone, Copy, Debug, PartialEq, Eq)]
 pub enum Entry {
     Name(u16),

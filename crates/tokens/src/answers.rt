@@ -79,7 +79,7 @@ impl Entry {
 }
 
 impl Answer {
-    // The answer's word, which gives back the answer; End and Working have none.
+    /// The answer's word, which gives back the answer; End and Working have none.
     pub fn word(self) -> Option<u32>
         ensures value { result ≡ answer_word self }
         ensures back { IfSome result (λ w. answer_of w ≡ Some self) }

@@ -4,7 +4,7 @@ ghost use Rattle.tokens.specs.Categories.{number_of, category_of};
 
 use crate::unknown::Unknown;
 
-// What a byte of a line does when it is read: its category, with the number that the rules give it.
+/// What a byte of a line does when it is read: its category, with the number that the rules give it.
 #[derive(Clone, Copy, Debug, PartialEq, Eq)]
 pub enum Category {
     Escape = 0,

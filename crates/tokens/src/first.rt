@@ -5,7 +5,7 @@ use crate::category::Category;
 use std::array;
 
 impl Category {
-    // The category that a code has at first.
+    /// The category that a code has at first.
     pub fn first(code: u8) -> Category
         ensures { result ≡ first_category code }
     {
@@ -29,7 +29,7 @@ impl Category {
         }
     }
 
-    // The categories of all codes at first.
+    /// The categories of all codes at first.
     pub fn first_table() -> [Category; 256]
         ensures { result ≡ first_categories }
     {

@@ -1,4 +1,4 @@
-// The part of the program that refuses.
+/// The part of the program that refuses.
 #[derive(Clone, Copy, Debug, PartialEq, Eq)]
 pub enum Layer {
     Line,

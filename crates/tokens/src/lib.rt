@@ -1,4 +1,4 @@
-// Tokens, answers and the 32-bit words that stand for them.
+//! Tokens, answers and the 32-bit words that stand for them.
 #![tactic(auto)]
 
 mod answer;

@@ -4,7 +4,7 @@ ghost use Rattle.tokens.specs.Categories.{token_number_of, token_category_of};
 
 use crate::unknown::Unknown;
 
-// The ten categories that a character token can have.
+/// The ten categories that a character token can have.
 #[derive(Clone, Copy, Debug, PartialEq, Eq)]
 pub enum TokenCategory {
     Open = 1,

@@ -5,7 +5,7 @@ use sources::PileFault;
 use std::fmt;
 use tokens::Token;
 
-// A line of the trace.
+/// A line of the trace.
 #[derive(Clone, Copy, Debug, PartialEq, Eq)]
 pub enum Line {
     Word(u32),

@@ -1,4 +1,4 @@
-// Reads a sheet from standard input and writes a line for each token that it gives.
+//! Reads a sheet from standard input and writes a line for each token that it gives.
 #![tactic(auto)]
 
 mod line;

@@ -1,4 +1,4 @@
-// Many cases of reading, each run against what the rules say.
+//! Many cases of reading, each run against what the rules say.
 #![tactic(auto)]
 
 #[cfg(test)]
