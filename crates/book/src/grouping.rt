@@ -19,7 +19,7 @@ pub(crate) const RECORDS: usize = 2048;
 // The most groups that can be open.
 pub(crate) const GROUPS: usize = 250;
 
-// Undoes the records from a base on, the newest first, and frees them.
+// Undoes the records from a base on, the newest first, and frees them. A loan of the vector in a buffer, so its room is said again.
 fn undo<V: Copy>(entries: &mut Entries<V>, saved: &mut Vec<Saved<V>>, base: usize)
     requires keyed { keys_below (count entries.old) saved.old.items ≡ true }
     requires within { base ≤ vec_len saved.old }

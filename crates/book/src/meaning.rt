@@ -48,7 +48,7 @@ pub(crate) struct Macro {
     pub(crate) body: Span,
 }
 
-// A meaning as the table holds it.
+// A meaning as the table holds it. No `Meaning`: there a macro has its words, and callers match on its cases directly.
 #[derive(Clone, Copy, Debug, PartialEq, Eq)]
 pub(crate) enum Held {
     Plain(Plain),

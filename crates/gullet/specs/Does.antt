@@ -3,6 +3,7 @@
 --   Does       it is answered what a rule of a step or a call answers, and leaves its state
 --   Finds      a rule was fed, and what came of it is told
 --   ReadsOn    what the reads in between make of the source below, by the relation of one read
+--   Unread     nothing is read of the source below
 use Rattle.std.specs.Prelude.{◌≡◌, List, Result}
 use Rattle.tokens.specs.declared.answer.Answer.{Answer}
 use Rattle.tokens.specs.declared.token.Token.{Token}
@@ -31,3 +32,6 @@ pub record Finds {S O A : Type 0} {source : Ghosts S} (old new : Gullet S source
 
 abbrev pub ReadsOn : {S : Type 0} {source : Ghosts S} → Gullet S source → Gullet S source → Type 0
 ReadsOn {S} {source} old new = Onward (source.reads (categories_of (book_of old.book))) old.source.below new.source.below
+
+abbrev pub Unread : {S : Type 0} {source : Ghosts S} → Gullet S source → Gullet S source → Type 0
+Unread old new = new.source.below ≡ old.source.below

@@ -4,7 +4,7 @@ ghost use Rattle.book.specs.Said.{book_of};
 ghost use Rattle.rules.specs.Assigning.{let_as, letting};
 ghost use Rattle.rules.specs.States.{meanings_of};
 ghost use Rattle.rules.specs.Tokens.{meaning};
-ghost use Rattle.gullet.specs.Does.{Does, Finds, ReadsOn};
+ghost use Rattle.gullet.specs.Does.{Does, Finds, ReadsOn, Unread};
 ghost use Rattle.gullet.specs.Faults.{placed};
 ghost use Rattle.gullet.specs.Targets.{named_ahead, target_of, let_named};
 
@@ -44,7 +44,7 @@ impl<S: Source> Gullet<S> {
     // A name means what a token means now, and no task is under way any more.
     fn give_alike(&mut self, name: u16, scope: Scope, token: Token) -> Result<Answer, GulletFault>
         ensures does { Does self.old self.new result (λ s r. let_as s name scope token r) }
-        ensures below { self.new.source.below ≡ self.old.source.below }
+        ensures below { Unread self.old self.new }
     {
         let outcome = copy_meaning(&mut self.book, name, scope, token);
         outcome.map_err(|fault| self.refused_by_book(fault))?;

@@ -1,7 +1,7 @@
 ghost use Rattle.std.specs.Prelude.{◌≡◌, Some};
 ghost use Rattle.tokens.specs.Categories.{category_of};
 ghost use Rattle.rules.specs.Assigning.{recoded_as, recoded_by, recoding_of, recoding_by, recoding};
-ghost use Rattle.gullet.specs.Does.{Does, ReadsOn};
+ghost use Rattle.gullet.specs.Does.{Does, ReadsOn, Unread};
 
 use crate::fault::GulletFault;
 use crate::feeding::fed;
@@ -17,7 +17,7 @@ impl<S: Source> Gullet<S> {
     // A code has the category of a number from now on, and no task is under way any more.
     fn give_category(&mut self, code: u8, number: u8, scope: Scope) -> Result<Answer, GulletFault>
         ensures does { Does self.old self.new result (λ s r. recoded_as s code scope r s.stands (category_of number)) }
-        ensures below { self.new.source.below ≡ self.old.source.below }
+        ensures below { Unread self.old self.new }
     {
         let Ok(category) = Category::try_from(number) else {
             return Err(self.refusal(GulletRefusal::BadCatcode));
@@ -38,7 +38,7 @@ impl<S: Source> Gullet<S> {
         scope: Scope,
     ) -> Result<Answer, GulletFault>
         ensures does { Does self.old self.new result (λ s r. recoded_by s code scope (Some (number, token)) r) }
-        ensures below { self.new.source.below ≡ self.old.source.below }
+        ensures below { Unread self.old self.new }
     {
         if is_space(&self.book, token) {
             return self.give_category(code, number, scope);

@@ -35,7 +35,7 @@ impl<S: Source> Gullet<S> {
         self.decide(truth)
     }
 
-    // A conditional that compares two tokens, unless 100 are open.
+    // A conditional that compares two tokens, unless 100 are open. As `begin_decided`, one test before another call of the rules.
     pub(crate) fn begin_compared(&mut self) -> Result<Answer, GulletFault>
         ensures does { Does self.old self.new result (λ s r. unless_open s r (compared s r)) }
         ensures onward { ReadsOn self.old self.new }

@@ -1,6 +1,6 @@
 ghost use Rattle.std.specs.Prelude.{◌≡◌};
 ghost use Rattle.rules.specs.States.{completed};
-ghost use Rattle.gullet.specs.Does.{Does};
+ghost use Rattle.gullet.specs.Does.{Does, Unread};
 
 use crate::fault::GulletFault;
 use crate::parts::Gullet;
@@ -12,7 +12,7 @@ impl<S: Source> Gullet<S> {
     // An expansion is complete: its result is put back, and in front of it what waits for it.
     pub(crate) fn complete(&mut self, res: &[Token]) -> Result<Answer, GulletFault>
         ensures does { Does self.old self.new result (λ s r. completed s r s.conditionals res.now) }
-        ensures below { self.new.source.below ≡ self.old.source.below }
+        ensures below { Unread self.old self.new }
     {
         self.waiting.held.clear();
         // at most 64 wait, for which there is room

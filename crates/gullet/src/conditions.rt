@@ -3,7 +3,7 @@ ghost use Rattle.driving.specs.declared.status.Status.TheVariants.{Normal};
 ghost use Rattle.rules.specs.Expanding.{at_fi_of};
 ghost use Rattle.rules.specs.Refusals.{gullet};
 ghost use Rattle.rules.specs.States.{completed};
-ghost use Rattle.gullet.specs.Does.{Does, ReadsOn};
+ghost use Rattle.gullet.specs.Does.{Does, ReadsOn, Unread};
 ghost use Rattle.gullet.specs.Faults.{fault_at};
 ghost use Rattle.gullet.specs.States.{place_of};
 ghost use Rattle.gullet.specs.Turns.{turned};
@@ -26,7 +26,7 @@ impl<S: Source> Gullet<S> {
     // An expansion is complete with nothing for its result: then the open conditionals change.
     pub(crate) fn conclude(&mut self, turn: Turn) -> Result<Answer, GulletFault>
         ensures does { Does self.old self.new result (λ s r. completed s r (turned turn s.conditionals) []) }
-        ensures below { self.new.source.below ≡ self.old.source.below }
+        ensures below { Unread self.old self.new }
     {
         let answer = self.complete(&[])?;
         turn_to(&mut self.conditionals, turn);

@@ -20,7 +20,7 @@ pub(crate) struct Draft {
 }
 
 // Where the reading of a definition is: in the parameter text or the body, or behind a character of category 6 there,
-// with how many parameters there are, and in the body how deep braces are.
+// with how many parameters there are, and in the body how deep braces are. It is what the rules' phase is, and no step to run.
 #[derive(Clone, Copy, Debug, PartialEq, Eq)]
 pub(crate) enum Stage {
     InText { count: u8 },

@@ -6,6 +6,7 @@ use driving::Status;
 use sources::Place;
 use tokens::Layer;
 
+// What a fault tells, each by its name: none of these is the fault in another form.
 impl GulletFault {
     pub(crate) fn number(self) -> u8
         ensures { result ≡ number_of self.cause }

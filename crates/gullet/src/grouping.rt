@@ -4,7 +4,7 @@ ghost use Rattle.driving.specs.declared.status.Status.TheVariants.{Normal};
 ghost use Rattle.book.specs.Books.{open_answer, after_open, close_answer, after_close};
 ghost use Rattle.rules.specs.Refusals.{book};
 ghost use Rattle.rules.specs.Stepping.{grouped};
-ghost use Rattle.gullet.specs.Does.{Does};
+ghost use Rattle.gullet.specs.Does.{Does, Unread};
 ghost use Rattle.gullet.specs.Faults.{fault_at};
 ghost use Rattle.gullet.specs.States.{place_of};
 
@@ -25,7 +25,7 @@ impl<S: Source> Gullet<S> {
     // Opens a group, or is refused by the book.
     pub(crate) fn open_group(&mut self, kind: GroupKind) -> Result<Answer, GulletFault>
         ensures does { Does self.old self.new result (λ s r. grouped s r (Opened kind) (after_open kind s.book) (open_answer s.book)) }
-        ensures below { self.new.source.below ≡ self.old.source.below }
+        ensures below { Unread self.old self.new }
     {
         self.book
             .open(kind)
@@ -36,7 +36,7 @@ impl<S: Source> Gullet<S> {
     // Closes the innermost group, or is refused by the book.
     pub(crate) fn close_group(&mut self, kind: GroupKind) -> Result<Answer, GulletFault>
         ensures does { Does self.old self.new result (λ s r. grouped s r (Closed kind) (after_close kind s.book) (close_answer kind s.book)) }
-        ensures below { self.new.source.below ≡ self.old.source.below }
+        ensures below { Unread self.old self.new }
     {
         self.book
             .close(kind)

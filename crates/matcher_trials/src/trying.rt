@@ -42,6 +42,7 @@ fn status_name(status: Status) -> &'static str {
 
 // Arguments in brackets, by the codes of their characters and the numbers of their names.
 fn write_arguments(written: &mut String, arguments: &Arguments) -> Result<(), AllocError> {
+    // by their numbers, as `get` is asked for them
     for n in 0..arguments.len() {
         write!(written, "[")?;
         for token in arguments.get(n).unwrap_or(&[]) {

@@ -18,6 +18,7 @@ impl Tasks {
     }
 
     /// Copies the tokens that wait at the newest end behind others, the oldest first: all of them, or none where there is no room.
+    /// Any vector of the caller's, so its room is said here.
     pub fn copy_waiting(&self, tokens: &mut Vec<Token>) -> Result<(), Full>
         ensures answer { is_ok result ≡ nat_le (vec_len tokens.old + length (waiting_of (tasks_of self.now))) (vec_capacity tokens.old) }
         ensures tokens { tokens.new.items ≡ tokens.old.items ++ (if is_ok result then waiting_of (tasks_of self.now) else []) }

@@ -48,7 +48,7 @@ impl Held {
         }
     }
 
-    // Puts the tokens of words in front, in their order.
+    // Puts the tokens of words in front, in their order. A loop of its own: one over any iterator would have to say what that yields.
     pub(crate) fn put_words(&mut self, words: &[u32])
         requires { length words.now + length (held_tokens self.old) ≤ 4096 }
         ensures { held_tokens self.new ≡ tokens_in words.now ++ held_tokens self.old }

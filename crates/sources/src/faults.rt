@@ -20,6 +20,7 @@ impl From<PileRefusal> for u8 {
     }
 }
 
+// What a fault tells, each by its name: none of these is the fault in another form.
 impl LineFault {
     pub fn number(self) -> u8
         ensures { result ≡ read_number self.refusal }
@@ -40,6 +41,7 @@ impl LineFault {
     }
 }
 
+// What a fault tells, each by its name: none of these is the fault in another form.
 impl PileFault {
     pub fn number(self) -> u8
         ensures { result ≡ fault_number self }

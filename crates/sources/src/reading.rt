@@ -56,6 +56,7 @@ pub(crate) fn token_in(
     ensures onward { Onward result cursor.old.taken cursor.new.taken (length line.now) }
     ensures within { cursor.new.taken ≤ length line.now }
 {
+    // a piece takes any number of bytes, so the cursor is no counter
     'pieces: while cursor.taken < line.len() {
         if let Some(token) = piece_in(line, cursor, categories, names)? {
             return Ok(Some(token));

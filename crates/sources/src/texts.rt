@@ -12,7 +12,7 @@ const TEXT_LIMIT: usize = 65_536;
 
 const END_OF_LINE: u8 = 13;
 
-// Makes a line of the bytes that it keeps, in memory that has room for them.
+// Makes a line of the bytes that it keeps, in memory that has room for them: how much depends on the text, so no type says it.
 fn make_line(line: &mut Vec<u8>, kept: &[u8])
     requires { length kept.now + 1 ≤ vec_capacity line.old }
     ensures items { line.new.items ≡ kept.now ++ 13 ∷ [] }

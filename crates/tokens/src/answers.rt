@@ -67,6 +67,7 @@ impl Entry {
         }
     }
 
+    // No `TryFrom`: it is half of a word, read on the way by `?`.
     fn from_bits(bits: u32) -> Option<Entry>
         ensures { result ≡ entry_of bits }
     {

@@ -78,6 +78,7 @@ fn kind_of(piece: Piece<'_>) -> Kind {
 #[test]
 fn every_byte_in_every_state(rt: HostRuntime) {
     let categories = Category::first_table();
+    // the byte is what is tried
     for byte in 0..=255u8 {
         for state in [
             LineState::NewLine,

@@ -19,6 +19,7 @@ fn write_fault(written: &mut String, fault: PileFault) -> Result<(), AllocError>
 // What the reads of a text answer up to the end, as a trace on one line.
 pub(crate) fn traced(heap: Global, bytes: &[u8]) -> Result<String, Fail> {
     let mut written = String::new(heap);
+    // a refused text is a line of the trace, want of memory is the test's failure
     let mut text = match Text::new(heap, bytes.to_vec(heap)?) {
         Ok(text) => text,
         Err(MakeFault::Refused(fault)) => {
