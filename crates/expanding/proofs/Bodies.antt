@@ -1,14 +1,13 @@
 -- What a body gives, word by word.
-use Rattle.std.proofs.Common.{◌≡◌, ℕ, ◌+◌, ◌<◌, List, ◌++◌, length, get_or, drop, sym, ap, ◌∙◌}
-use Rattle.std.proofs.lemmas.List.{length-append, append_assoc}
+use Rattle.std.proofs.Common.{◌≡◌, ℕ, ◌+◌, ◌<◌, List, ◌∷◌, ◌++◌, length, get_or, drop, sym, ap, ◌∙◌}
+use Rattle.std.proofs.lemmas.List.{length-append, append_assoc, at_drop_more}
 use Rattle.tokens.specs.declared.token.Token.{Token}
 use Rattle.tokens.specs.declared.stored.BodyWord.{BodyWord}
 use Rattle.expanding.specs.Substituting.{word_tokens, substituted}
-use Rattle.expanding.proofs.Nexts.{next_is}
 
 module _ (args : List (List Token)) (body : List BodyWord) (i : ℕ) (d w : BodyWord) (h : i < length body) (e : get_or body i d ≡ w) where
   pub from_word : substituted args (drop i body) ≡ word_tokens args w ++ substituted args (drop (i + 1) body)
-  from_word = ap (substituted args) (next_is body i d w h e)
+  from_word = at_drop_more (substituted args) body i d h ∙ ap (λ (u : BodyWord). substituted args (u ∷ drop (i + 1) body)) e
 
   pub long_word : length (substituted args (drop i body)) ≡ length (word_tokens args w) + length (substituted args (drop (i + 1) body))
   long_word = ap length from_word ∙ length-append (word_tokens args w) (substituted args (drop (i + 1) body))

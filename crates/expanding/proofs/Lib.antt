@@ -1,2 +1,1 @@
-mod Nexts
 mod Bodies

@@ -1,4 +1,3 @@
-mod Nexts
 mod Going
 mod Parts
 mod Hindering

@@ -1,6 +1,6 @@
 -- The settled part of tokens, place by place.
 use Rattle.std.proofs.Common.{◌≡◌, ℕ, zero, suc, ◌+◌, ◌<◌, ◌≤◌, Bool, true, false, ◌&&◌, ◌||◌, eqb, ◌⊎◌, List, [], ◌∷◌, ◌++◌, length, get_or, take, drop, Some, None, Option, sym, refl, ap, ◌∙◌, subst, inl, inr, arith}
-use Rattle.std.proofs.lemmas.List.{take_more, drop_all}
+use Rattle.std.proofs.lemmas.List.{take_more, drop_all, drop_more}
 use Rattle.std.proofs.lemmas.Bool.{cond-true, cond-false, cond_both, and_from, and_left, ne_eqb, cases_lt}
 use Rattle.std.proofs.Math.Bool.{or-false, or_assoc}
 use Rattle.tokens.specs.declared.token.Token.{Token}
@@ -10,7 +10,6 @@ use Rattle.matching.specs.Braces.{is_open, is_close, lowered, is_par, has_par, s
 use Rattle.matching.specs.Matching.{settled_from}
 use Rattle.matching.proofs.Depths.{deeper_push, par_append}
 use Rattle.matcher.specs.Marks.{begins, Marked, moved}
-use Rattle.matcher.proofs.Nexts.{next_is}
 
 -- a token that is not the first of the delimiter begins it not
 pub not_front : (t : Token) (ts d : List Token) → begins t d ≡ false → is_front (t ∷ ts) d ≡ false
@@ -40,7 +39,7 @@ module _ (d u : List Token) (at : ℕ) where
 
   module _ (k : Token) (x : Token) (h : at < length u) (e : get_or u at k ≡ x) where
     next : drop at u ≡ x ∷ drop (at + 1) u
-    next = next_is u at k x h e
+    next = drop_more u at k h ∙ ap (λ (y : Token). y ∷ drop (at + 1) u) e
 
     pub take_next : take (at + 1) u ≡ take at u ++ x ∷ []
     take_next = take_more u at k h ∙ ap (λ (y : Token). take at u ++ y ∷ []) e

@@ -6,7 +6,7 @@ use crate::text::PARAMETERS_LIMIT;
 use buffers::Buffer;
 use tokens::Token;
 
-// The most tokens at a time: 4,096 that count for a call, 2,048 of a delimiter that may yet not be one, and one more.
+// The most tokens at a time: 4,096 that count for a call, 2,048 of a delimiter that may yet not be one, and one to spare.
 pub(crate) const TOKENS_LIMIT: usize = 6_145;
 
 pub(crate) type Gathered = Buffer<Token, TOKENS_LIMIT>;

@@ -1,5 +1,5 @@
 use Rattle.std.proofs.Common.{◌≡◌, ℕ, ◌+◌, ◌-◌, ◌≤◌, true, false, eqb, List, [], ◌∷◌, ◌++◌, length, take, drop, Some, None, vec_items, vec_len, sym, refl, ap, ◌∙◌, subst, arith, rules}
-use Rattle.std.proofs.lemmas.List.{length_push, drop-take, take-take, take_rest}
+use Rattle.std.proofs.lemmas.List.{length_push, drop-take, take_rest}
 use Rattle.std.proofs.lemmas.Result.{err_from_is_err_and}
 use Rattle.std.proofs.lemmas.Bool.{cond-true, cond-false, eq-eqb, ne_eqb}
 use Rattle.tokens.specs.declared.token.Token.{Token}
@@ -56,19 +56,15 @@ settle-requires g c =
       short = omega (arith, ap length e, length_push u t, long_from v start, i.7, i.4, i.6, c.args.delimiter.short);
     }
 
-pub returns-in_err-token : goal.returns-in_err-token
-returns-in_err-token g c =
+pub returns-in_err-token-clause-goes : goal.returns-in_err-token-clause-goes
+returns-in_err-token-clause-goes g c =
     let t = c.in_err-token.ensures in
     let i = c.run.invariant in
     let p = err_from_is_err_and c.from_residual.result c.from_residual.ensures.1 in
-    record {
-      goes = λ q u. rw (p.1, p.2) (fails _ _ _ _ _ (i.0 q u) (unread _ _ _ _ _ (in_run q _ _) _ _ (listed c.needed.new.names) c.needed.new.source c.in_err-token.field-0.0 t.takes t.reads));
-      fits = rw p.1 tt;
-      kept = ap (λ (z : ℕ). take z (vec_items c.run.gathered.held)) (sym c.len-start.ensures) ∙ i.8;
-    }
+    λ q u. rw (p.1, p.2) (fails _ _ _ _ _ (i.0 q u) (unread _ _ _ _ _ (in_run q _ _) _ _ (listed c.needed.new.names) c.needed.new.source c.in_err-token.field-0.0 t.takes t.reads))
 
-pub returns-in_default : goal.returns-in_default
-returns-in_default g c =
+pub returns-in_default-clause-goes : goal.returns-in_default-clause-goes
+returns-in_default-clause-goes g c =
     let v = c.run.gathered.held in
     let w = c.push_reserved.new.self in
     let start = c.len-start.result in
@@ -83,15 +79,11 @@ returns-in_default g c =
     let e : x ≡ u ++ t ∷ [] = pushed_from v w t start (omega (arith, i.6)) c.push_reserved.ensures.items in
     let h : c.run.at ≤ length u = omega (arith, long_from v start, i.6) in
     let none : deeper 0 (settled_from d (take c.run.at x) (drop c.run.at x)) ≡ None = subst (λ (z : List Token). deeper 0 (settled_from d (take c.run.at z) (drop c.run.at z)) ≡ None) b c.in_default.ensures in
-    record {
-      goes = λ p o. rw c.place.ensures (refuses _ _ _ _ long Unmatched (onward _ _ _ _ long (i.0 p o) (read _ _ _ _ long (in_run p d u) _ _ (listed c.needed.new.names) c.needed.new.source t k.takes k.reads)) (unmatched_x long d u t x e c.run.at c.run.depth h i.5 i.1 i.2 i.3 p none));
-      fits = tt;
-      kept = ap (λ (z : ℕ). take z (vec_items w)) (sym c.len-start.ensures) ∙ pushed_before v w t start (omega (arith, i.6)) c.push_reserved.ensures.items ∙ i.8;
-    }
+    λ p o. rw c.place.ensures (refuses _ _ _ _ long Unmatched (onward _ _ _ _ long (i.0 p o) (read _ _ _ _ long (in_run p d u) _ _ (listed c.needed.new.names) c.needed.new.source t k.takes k.reads)) (unmatched_x long d u t x e c.run.at c.run.depth h i.5 i.1 i.2 i.3 p none))
 
-pub returns-in_err-map_err : goal.returns-in_err-map_err
+pub returns-in_err-map_err-clause-goes : goal.returns-in_err-map_err-clause-goes
 unfolding Found
-returns-in_err-map_err g c =
+returns-in_err-map_err-clause-goes g c =
     let v = c.run.gathered.held in
     let w = c.push_reserved.new.self in
     let start = c.len-start.result in
@@ -110,11 +102,7 @@ returns-in_err-map_err g c =
     let n : ℕ = c.args.terms.counted + (m.at + m.depth) + c.args.terms.few in
     let bad : (r : MatcherRefusal) × (hindrance long m.par n ≡ Some r) × (c.in_err-map_err.field-0.0 ≡ Matcher r (g.S.Source.place c.needed.new.source)) = search rules in
     let q = err_from_is_err_and c.from_residual-in_err-map_err.result c.from_residual-in_err-map_err.ensures.1 in
-    record {
-      goes = λ p o. rw (q.1, q.2) (hinders _ _ _ _ long _ bad (onward _ _ _ _ long (i.0 p o) (read _ _ _ _ long (in_run p d u) _ _ (listed c.needed.new.names) c.needed.new.source t k.takes k.reads)) (fed_then long d u t x e c.run.at c.run.depth h i.5 i.1 i.2 i.3 m f.0 f.1 p (length c.args.delimiter.words.now) n (sym c.args.delimiter.tokens) (omega (arith, o.0, o.1))));
-      fits = rw q.1 tt;
-      kept = ap (λ (z : ℕ). take z (vec_items w)) (sym c.len-start.ensures) ∙ pushed_before v w t start (omega (arith, i.6)) c.push_reserved.ensures.items ∙ i.8;
-    }
+    λ p o. rw (q.1, q.2) (hinders _ _ _ _ long _ bad (onward _ _ _ _ long (i.0 p o) (read _ _ _ _ long (in_run p d u) _ _ (listed c.needed.new.names) c.needed.new.source t k.takes k.reads)) (fed_then long d u t x e c.run.at c.run.depth h i.5 i.1 i.2 i.3 m f.0 f.1 p (length c.args.delimiter.words.now) n (sym c.args.delimiter.tokens) (omega (arith, o.0, o.1))))
 
 pub run-preserved : goal.run-preserved
 unfolding Found
@@ -151,9 +139,9 @@ run-preserved g c =
       pushed_before v w t start (omega (arith, i.6)) c.push_reserved.ensures.items ∙ i.8,
     )
 
-pub returns-then-len-start : goal.returns-then-len-start
+pub returns-then-len-start-clause-goes : goal.returns-then-len-start-clause-goes
 unfolding Found
-returns-then-len-start g c =
+returns-then-len-start-clause-goes g c =
     let v = c.run.gathered.held in
     let w = c.push_reserved.new.self in
     let start = c.len-start.result in
@@ -177,8 +165,4 @@ returns-then-len-start g c =
     let all : eqb (length x) (m.at + length c.args.delimiter.words.now) ≡ true = eq-eqb (length x) (m.at + length c.args.delimiter.words.now) (omega (arith, len, c.if-len-start.true, c.len.ensures)) in
     let cut : take m.at x ≡ drop (vec_len c.args.gathered.now.held) (vec_items z) = sym (drop-take start m.at (vec_items w)) ∙ ap (drop start) (sym c.truncate.ensures.items) ∙ ap (λ (q : ℕ). drop q (vec_items z)) c.len-start.ensures in
     let short : start + m.at ≤ vec_len w = omega (arith, f.0.within, len, i.6, c.push_reserved.ensures.len) in
-    record {
-      goes = λ p o. onward _ _ _ _ long (i.0 p o) (turned _ _ _ _ long (read _ _ _ _ long (in_run p d u) _ _ (listed c.needed.new.names) c.needed.new.source t k.takes k.reads) (fed_then long d u t x e c.run.at c.run.depth h i.5 i.1 i.2 i.3 m f.0 f.1 p (length c.args.delimiter.words.now) n (sym c.args.delimiter.tokens) (omega (arith, o.0, o.1)) ∙ ap (by _) free ∙ cond-true (eqb (length x) (m.at + length c.args.delimiter.words.now)) _ _ all ∙ ap (λ (q : List Token). ended p (stripped q) m.at) cut));
-      fits = (omega (arith, ok.1), omega (arith, short, c.truncate.ensures.len, c.len-start.ensures));
-      kept = ap (λ (q : ℕ). take q (vec_items z)) (sym c.len-start.ensures) ∙ ap (take start) c.truncate.ensures.items ∙ take-take start (start + m.at) (vec_items w) (omega arith) ∙ pushed_before v w t start (omega (arith, i.6)) c.push_reserved.ensures.items ∙ i.8;
-    }
+    λ p o. onward _ _ _ _ long (i.0 p o) (turned _ _ _ _ long (read _ _ _ _ long (in_run p d u) _ _ (listed c.needed.new.names) c.needed.new.source t k.takes k.reads) (fed_then long d u t x e c.run.at c.run.depth h i.5 i.1 i.2 i.3 m f.0 f.1 p (length c.args.delimiter.words.now) n (sym c.args.delimiter.tokens) (omega (arith, o.0, o.1)) ∙ ap (by _) free ∙ cond-true (eqb (length x) (m.at + length c.args.delimiter.words.now)) _ _ all ∙ ap (λ (q : List Token). ended p (stripped q) m.at) cut))

@@ -1,4 +1,4 @@
-use Rattle.std.proofs.Common.{rules, ◌≡◌, ℕ, ◌+◌, ◌-◌, [], ◌∷◌, ◌++◌, take, drop, Some, None, vec_items, vec_len, sym, ap, ◌∙◌, subst, arith}
+use Rattle.std.proofs.Common.{rules, ◌≡◌, ℕ, ◌+◌, ◌-◌, [], ◌∷◌, ◌++◌, drop, Some, None, vec_items, vec_len, sym, ap, ◌∙◌, subst, arith}
 use Rattle.std.proofs.lemmas.List.{length_push}
 use Rattle.std.proofs.lemmas.Result.{err_from_is_err_and}
 use Rattle.names.specs.Spelled.{listed}
@@ -54,19 +54,15 @@ group-preserved g c =
       pushed_before v w t start i.4 c.push_reserved.ensures.items ∙ i.5,
     )
 
-pub returns-in_err-token : goal.returns-in_err-token
-returns-in_err-token g c =
+pub returns-in_err-token-clause-goes : goal.returns-in_err-token-clause-goes
+returns-in_err-token-clause-goes g c =
     let t = c.in_err-token.ensures in
     let i = c.group.invariant in
     let p = err_from_is_err_and c.from_residual.result c.from_residual.ensures.1 in
-    record {
-      goes = λ q u. rw (p.1, p.2) (fails _ _ _ _ _ (i.0 q u) (unread _ _ _ _ _ (in_group q _) _ _ (listed c.needed.new.names) c.needed.new.source c.in_err-token.field-0.0 t.takes t.reads));
-      fits = rw p.1 tt;
-      kept = ap (λ (k : ℕ). take k (vec_items c.group.gathered.held)) (sym c.len-start.ensures) ∙ i.5;
-    }
+    λ q u. rw (p.1, p.2) (fails _ _ _ _ _ (i.0 q u) (unread _ _ _ _ _ (in_group q _) _ _ (listed c.needed.new.names) c.needed.new.source c.in_err-token.field-0.0 t.takes t.reads))
 
-pub returns-in_default : goal.returns-in_default
-returns-in_default g c =
+pub returns-in_default-clause-goes : goal.returns-in_default-clause-goes
+returns-in_default-clause-goes g c =
     let v = c.group.gathered.held in
     let start = c.len-start.result in
     let inner = drop start (vec_items v) in
@@ -74,19 +70,15 @@ returns-in_default g c =
     let long = c.args.terms.long in
     let i = c.group.invariant in
     let k = c.in_ok-token.ensures in
-    record {
-      goes = λ p u.
-          let f : feed long (in_group p inner) t ≡ ended p (drop (vec_len c.args.gathered.now.held) (vec_items v)) (vec_len v - vec_len c.args.gathered.now.held + 2) =
-          group_closes long p inner c.group.depth t i.1 (sym c.in_default.ensures)
-          ∙ ap (λ (n : ℕ). ended p inner (n + 2)) (long_from v start)
-          ∙ ap (λ (n : ℕ). ended p (drop n (vec_items v)) (vec_len v - n + 2)) c.len-start.ensures in
-          onward _ _ _ _ long (i.0 p u) (turned _ _ _ _ long (read _ _ _ _ long (in_group p inner) _ _ (listed c.needed.new.names) c.needed.new.source t k.takes k.reads) f);
-      fits = omega (arith, c.len-start.ensures, i.3);
-      kept = ap (λ (k : ℕ). take k (vec_items c.group.gathered.held)) (sym c.len-start.ensures) ∙ i.5;
-    }
+    λ p u.
+    let f : feed long (in_group p inner) t ≡ ended p (drop (vec_len c.args.gathered.now.held) (vec_items v)) (vec_len v - vec_len c.args.gathered.now.held + 2) =
+    group_closes long p inner c.group.depth t i.1 (sym c.in_default.ensures)
+    ∙ ap (λ (n : ℕ). ended p inner (n + 2)) (long_from v start)
+    ∙ ap (λ (n : ℕ). ended p (drop n (vec_items v)) (vec_len v - n + 2)) c.len-start.ensures in
+    onward _ _ _ _ long (i.0 p u) (turned _ _ _ _ long (read _ _ _ _ long (in_group p inner) _ _ (listed c.needed.new.names) c.needed.new.source t k.takes k.reads) f)
 
-pub returns-in_err-map_err : goal.returns-in_err-map_err
-returns-in_err-map_err g c =
+pub returns-in_err-map_err-clause-goes : goal.returns-in_err-map_err-clause-goes
+returns-in_err-map_err-clause-goes g c =
     let v = c.group.gathered.held in
     let start = c.len-start.result in
     let inner = drop start (vec_items v) in
@@ -99,10 +91,6 @@ returns-in_err-map_err g c =
     let bad : (r : MatcherRefusal) × (hindrance long (is_par t) n ≡ Some r) × (c.in_err-map_err.field-0.0 ≡ Matcher r (g.S.Source.place c.needed.new.source)) = search rules in
     let k = c.in_ok-token.ensures in
     let q = err_from_is_err_and c.from_residual-in_err-map_err.result c.from_residual-in_err-map_err.ensures.1 in
-    record {
-      goes = λ p u.
-          let f = group_on long p inner c.group.depth t i.1 m n to i.2 (omega (arith, u.0, u.1, long_from v start, length_push inner t, c.len.ensures)) in
-          rw (q.1, q.2) (hinders _ _ _ _ long _ bad (onward _ _ _ _ long (i.0 p u) (read _ _ _ _ long (in_group p inner) _ _ (listed c.needed.new.names) c.needed.new.source t k.takes k.reads)) f);
-      fits = rw q.1 tt;
-      kept = ap (λ (k : ℕ). take k (vec_items c.group.gathered.held)) (sym c.len-start.ensures) ∙ i.5;
-    }
+    λ p u.
+    let f = group_on long p inner c.group.depth t i.1 m n to i.2 (omega (arith, u.0, u.1, long_from v start, length_push inner t, c.len.ensures)) in
+    rw (q.1, q.2) (hinders _ _ _ _ long _ bad (onward _ _ _ _ long (i.0 p u) (read _ _ _ _ long (in_group p inner) _ _ (listed c.needed.new.names) c.needed.new.source t k.takes k.reads)) f)

@@ -1,4 +1,4 @@
-use Rattle.std.proofs.Common.{◌≡◌, true, List, vec_items, vec_len, sym, refl, ap, ◌∙◌, subst, arith}
+use Rattle.std.proofs.Common.{◌≡◌, true, List, vec_items, vec_len, sym, ap, ◌∙◌, subst, arith}
 use Rattle.matcher.specs.declared.span.Span.{Span}
 use Rattle.matcher.specs.Spans.{parts_of, all_within}
 use Rattle.matcher.proofs.Parts.{within_push, parts_push}
@@ -12,11 +12,8 @@ invariant_of-self c =
       (subst (λ (ss : List Span). all_within n ss ≡ true) (sym c.push_reserved.ensures.items) (within_push n (vec_items a.spans.held) c.args.span c.requires.within.0 c.requires.within.1 a.within), tt),
     )
 
-pub returns : goal.returns
-returns c =
+pub returns-clause-arguments : goal.returns-clause-arguments
+returns-clause-arguments c =
     let a = c.args.self.now in
-    let ts = vec_items a.gathered.held in record {
-      arguments = ap (parts_of ts) c.push_reserved.ensures.items ∙ parts_push ts (vec_items a.spans.held) c.args.span;
-      gathered = refl;
-      spans = c.push_reserved.ensures.len;
-    }
+    let ts = vec_items a.gathered.held in
+    ap (parts_of ts) c.push_reserved.ensures.items ∙ parts_push ts (vec_items a.spans.held) c.args.span
