@@ -33,6 +33,7 @@ fn undo<V: Copy>(entries: &mut Entries<V>, saved: &mut Vec<Saved<V>>, base: usiz
     saved.truncate(base);
 }
 
+// Each function says that its key is below the size: a name for that would be as long.
 impl<V: Copy> Grouped<V> {
     // A table with its first values, one for each key from 0 on. All its memory is taken here.
     pub(crate) fn new(heap: Global, values: Vec<V>) -> Result<Grouped<V>, AllocError>

@@ -4,7 +4,8 @@ use crate::wording::WORDS;
 use buffers::Buffer;
 use tokens::{BodyWord, ParameterWord};
 
-// The words of all definitions, those of parameter texts and those of bodies, at most 16,384 together.
+// The words of all definitions, those of parameter texts and those of bodies, at most 16,384 together. Their memory is taken
+// when the book is made, so a macro has spans in them and no vectors of its own.
 #[derive(Drop)]
 pub(crate) struct Words {
     pub(crate) parameters: Buffer<ParameterWord, WORDS>,

@@ -9,7 +9,7 @@ use std::alloc::{AllocError, Global};
 use tokens::{BodyWord, Token};
 
 impl Expansion {
-    /// No tokens, and memory for as many as there may be.
+    /// No tokens, and memory for as many as there may be. Its own maker, since it has a view of its own.
     pub fn new(heap: Global) -> Result<Expansion, AllocError>
         ensures { IfOk result (λ e. expansion_of e ≡ []) }
     {

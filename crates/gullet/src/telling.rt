@@ -1,4 +1,4 @@
-// Tests of tokens.
+// Tests of tokens. Each is one line, and has the name that the rules have for it.
 ghost use Rattle.std.specs.Prelude.{◌≡◌, ◌≤◌};
 ghost use Rattle.book.specs.Meanings.{shown};
 ghost use Rattle.book.specs.Said.{book_of};

@@ -34,7 +34,8 @@ fn unblanked<S: Source>(
     }
 }
 
-// Reads a group behind its opening brace, and keeps its tokens without the closing brace.
+// Reads a group behind its opening brace, and keeps its tokens without the closing brace. That all tokens held are counted is
+// said in each contract: a name for that would be as long.
 fn group<S: Source>(
     source: &mut S,
     categories: &[Category; 256],

@@ -1,3 +1,4 @@
+//! Spellings and their numbers.
 #![tactic(auto)]
 
 mod fault;

@@ -19,6 +19,7 @@ pub enum Task {
 }
 
 // The prefix that marks nothing: it lies in the places of a stack that are not used.
+// By hand, since a derive takes only a case that holds nothing.
 impl Default for Task {
     ghost is_default = { λ it. it ≡ task.Prefix (record { global = false; long = false }) };
 

@@ -9,6 +9,7 @@ use std::alloc::{AllocError, Global};
 use tokens::Token;
 
 impl Held {
+    // Its own maker, since it has a view of its own.
     pub(crate) fn new(heap: Global) -> Result<Held, AllocError>
         ensures { IfOk result (λ h. held_tokens h ≡ []) }
     {

@@ -16,7 +16,8 @@ fn is_known(word: u32, names: &Names) -> bool
     }
 }
 
-// Where the first word stands that is not known, if there is one. The loop has the index, since that place is the answer.
+// Where the first word stands that is not known, if there is one. A loop with the index, as the rule goes by which every word
+// of the list is looked at before any is put.
 pub(crate) fn first_bad(words: &[u32], names: &Names) -> Option<usize>
     ensures { result ≡ first_bad 0 (listed names.now) words.now }
 {

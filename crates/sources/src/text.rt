@@ -12,6 +12,7 @@ pub struct Text {
     pub(crate) bytes: Vec<u8>,
     // where the next line begins
     pub(crate) next: usize,
+    // as it is made it stands nowhere in the bytes; its memory is taken when the text is made
     pub(crate) line: Vec<u8>,
     // the line's number, from 1; 0 before the first
     pub(crate) number: usize,

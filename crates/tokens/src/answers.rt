@@ -80,7 +80,8 @@ impl Entry {
 }
 
 impl Answer {
-    /// The answer's word, which gives back the answer; End and Working have none.
+    /// The answer's word, which gives back the answer. End and Working have none: an `Option` says so, where the error of a
+    /// `TryFrom` would say no more.
     pub fn word(self) -> Option<u32>
         ensures value { result ≡ answer_word self }
         ensures back { IfSome result (λ w. answer_of w ≡ Some self) }
