@@ -74,6 +74,7 @@ impl Draft {
         }
     }
 
+    // It is given the depth that `feed` took out of the stage, so it asks again what the draft's type says; so do the others with one.
     fn in_body(
         &mut self,
         book: &Book,
