@@ -28,6 +28,14 @@ impl From<GroupKind> for u32 {
     }
 }
 
+impl From<GroupKind> for u8 {
+    ghost from_gives = { λ g n. n ≡ group_number g };
+
+    fn from(group: GroupKind) -> u8 {
+        group as u8
+    }
+}
+
 impl TryFrom<u32> for GroupKind {
     type Error = Unknown;
 

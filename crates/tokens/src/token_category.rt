@@ -27,6 +27,14 @@ impl From<TokenCategory> for u32 {
     }
 }
 
+impl From<TokenCategory> for u8 {
+    ghost from_gives = { λ c n. n ≡ token_number_of c };
+
+    fn from(category: TokenCategory) -> u8 {
+        category as u8
+    }
+}
+
 impl TryFrom<u32> for TokenCategory {
     type Error = Unknown;
 
