@@ -1,4 +1,4 @@
-ghost use Rattle.std.specs.Prelude.{◌≡◌, ◌≤◌, [], length, Some, None, Ok, Err, IfOk, if◌then◌else◌, nat_le};
+ghost use Rattle.std.specs.Prelude.{◌≡◌, ◌+◌, ◌≤◌, [], ◌++◌, length, Some, None, Ok, Err, IfOk, if◌then◌else◌, vec_len, vec_capacity, nat_le};
 ghost use Rattle.matcher.specs.Held.{arguments_of};
 ghost use Rattle.expanding.specs.Substituting.{argument_at, word_tokens, substituted, expansion_of};
 
@@ -22,6 +22,18 @@ impl Expansion {
         ensures { result.now ≡ expansion_of self.now }
     {
         self.tokens.held.as_slice()
+    }
+}
+
+// Puts tokens behind others, where there is room. No `extend_from_slice`: the library does not say that it takes no memory.
+fn append(tokens: &mut Vec<Token>, more: &[Token])
+    requires { vec_len tokens.old + length more.now ≤ vec_capacity tokens.old }
+    ensures items { tokens.new.items ≡ tokens.old.items ++ more.now }
+    ensures len { vec_len tokens.new ≡ vec_len tokens.old + length more.now }
+    ensures capacity { vec_capacity tokens.new ≡ vec_capacity tokens.old }
+{
+    'more: for token in more {
+        tokens.push_reserved(*token);
     }
 }
 
@@ -62,16 +74,14 @@ impl Expansion {
     fn fill(&mut self, arguments: &Arguments, body: &[BodyWord])
         requires empty { expansion_of self.old ≡ [] }
         requires fits { length (substituted (arguments_of arguments.now) body.now) ≤ 4096 }
-        ensures { expansion_of self.new ≡ substituted (arguments_of arguments.now) body.now }
+        ensures items { expansion_of self.new ≡ substituted (arguments_of arguments.now) body.now }
+        ensures capacity { vec_capacity self.new.tokens.held ≡ vec_capacity self.old.tokens.held }
     {
         'body: for word in body {
             match *word {
                 BodyWord::Token(token) => self.tokens.held.push_reserved(token),
                 BodyWord::Reference(reference) => {
-                    let _ = self
-                        .tokens
-                        .held
-                        .extend_from_slice(referred(arguments, reference));
+                    append(&mut self.tokens.held, referred(arguments, reference))
                 }
             }
         }

@@ -27,6 +27,12 @@ fewest_short (word.Parameter ∷ ws) = omega (arith, fewest_cons (parameters_of 
     one true = omega arith
     one false = omega arith
 
+pub parameters_drop : (k : ℕ) (ws : List ParameterWord) → parameters_in (drop k ws) ≤ parameters_in ws
+parameters_drop zero ws = omega arith
+parameters_drop (suc k) [] = omega arith
+parameters_drop (suc k) (word.Token t ∷ ws) = parameters_drop k ws
+parameters_drop (suc k) (word.Parameter ∷ ws) = omega (arith, parameters_drop k ws)
+
 -- texts in the library's words
 pub closing_any : (ws : List ParameterWord) → has_closing ws ≡ list_any is_closing ws
 closing_any [] = refl

@@ -1,4 +1,4 @@
-ghost use Rattle.std.specs.Prelude.{◌≡◌, true, vec_len};
+ghost use Rattle.std.specs.Prelude.{◌≡◌, ◌≤◌, true, vec_len, vec_capacity};
 ghost use Rattle.matcher.specs.Spans.{all_within};
 
 use crate::span::Span;
@@ -16,5 +16,7 @@ pub(crate) type Gathered = Buffer<Token, TOKENS_LIMIT>;
 pub struct Arguments {
     pub(crate) gathered: Gathered,
     pub(crate) spans: Buffer<Span, PARAMETERS_LIMIT>,
+    ghost room: { 6145 ≤ vec_capacity gathered.held },
+    ghost places: { 9 ≤ vec_capacity spans.held },
     ghost within: { all_within (vec_len gathered.held) spans.held.items ≡ true },
 }

@@ -5,7 +5,6 @@ ghost use Rattle.matching.specs.Matching.{awaiting, following};
 ghost use Rattle.matcher.specs.Going.{Goes};
 ghost use Rattle.matcher.specs.Marks.{delimiter_in};
 
-use crate::delimiter::Delimiter;
 use calls::MatcherCause;
 use driving::needed;
 use matching::MatcherRefusal;
@@ -13,18 +12,22 @@ use names::Names;
 use sources::Source;
 use tokens::{Category, ParameterWord};
 
-// Reads the text before the first parameter.
+// Reads the text before the first parameter. A word is looked at only when those before it stood in the source,
+// so a call refused at its first token costs no more for a long text.
 pub(crate) fn text_before<S: Source>(
     source: &mut S,
     categories: &[Category; 256],
     names: &mut Names,
-    before: Delimiter<'_>,
+    words: &[ParameterWord],
 ) -> Result<(), MatcherCause>
-    ensures { (long : Bool) (ds : List (List Token)) → Goes S.Source.reads S.Source.ahead S.Source.place categories.now long (awaiting (delimiter_in before.entry.words.now) ds) (listed names.old) source.old result (λ _. following [] 0 ds) (listed names.new) source.new }
+    ensures { (long : Bool) (ds : List (List Token)) → Goes S.Source.reads S.Source.ahead S.Source.place categories.now long (awaiting (delimiter_in words.now) ds) (listed names.old) source.old result (λ _. following [] 0 ds) (listed names.new) source.new }
 {
-    'words: for word in before.words {
+    'words: for word in words {
+        let ParameterWord::Token(wanted) = *word else {
+            return Ok(());
+        };
         let token = needed(source, categories, names)?;
-        if *word != ParameterWord::Token(token) {
+        if wanted != token {
             return Err(MatcherCause::Matcher(MatcherRefusal::Differs, source.place()));
         }
     }

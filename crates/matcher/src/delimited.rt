@@ -1,4 +1,4 @@
-ghost use Rattle.std.specs.Prelude.{◌≡◌, ◌+◌, ◌≤◌, [], length, drop, IfOk, vec_len};
+ghost use Rattle.std.specs.Prelude.{◌≡◌, ◌+◌, ◌≤◌, [], length, drop, IfOk, vec_len, vec_capacity};
 ghost use Rattle.names.specs.Spelled.{listed};
 ghost use Rattle.matching.specs.Dividing.{stripped};
 ghost use Rattle.matching.specs.Matching.{on, Progress, in_run, ended};
@@ -33,6 +33,7 @@ pub(crate) fn delimited<S: Source>(
     ensures goes { (p : Progress) → Under terms p → Goes S.Source.reads S.Source.ahead S.Source.place categories.now terms.long (on (in_run p (delimiter_in delimiter.entry.words.now) [])) (listed names.old) source.old result (λ n. ended p (stripped (drop (vec_len gathered.old.held) gathered.new.held.items)) n) (listed names.new) source.new }
     ensures fits { IfOk result (λ n. (terms.counted + n + terms.few ≤ 4096) × (vec_len gathered.new.held ≡ vec_len gathered.old.held + n)) }
     ensures kept { Kept gathered.old.held gathered.new.held }
+    ensures capacity { vec_capacity gathered.new.held ≡ vec_capacity gathered.old.held }
 {
     let start = gathered.held.len();
     let width = delimiter.words.len();

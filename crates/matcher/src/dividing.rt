@@ -29,8 +29,8 @@ pub(crate) fn divide<S: Source>(
     requires few { parameters_in words.now ≤ 9 }
     ensures { Goes S.Source.reads S.Source.ahead S.Source.place categories.now long (begin (parameters_of words.now)) (listed names.old) source.old result (λ _. out (matched (arguments_of arguments.new))) (listed names.new) source.new }
 {
+    text_before(source, categories, names, words)?;
     let before = delimiter_at(words);
-    text_before(source, categories, names, before)?;
     let mut rest = &words[before.words.len()..];
     let mut counted = 0;
     'parameters: while let Some((_, behind)) = rest.split_first() {

@@ -1,4 +1,4 @@
-ghost use Rattle.std.specs.Prelude.{◌≡◌, ◌+◌, ◌-◌, ◌≤◌, Bool, false, [], drop, IfOk, if◌then◌else◌, vec_len, OnOk};
+ghost use Rattle.std.specs.Prelude.{◌≡◌, ◌+◌, ◌-◌, ◌≤◌, Bool, false, [], drop, IfOk, if◌then◌else◌, vec_len, vec_capacity, OnOk};
 ghost use Rattle.names.specs.Spelled.{listed};
 ghost use Rattle.matching.specs.Braces.{is_open, is_blank};
 ghost use Rattle.matching.specs.Matching.{on, Progress, skipping, in_group, ended, feed};
@@ -48,6 +48,7 @@ fn group<S: Source>(
     ensures goes { (p : Progress) → Under terms p → Goes S.Source.reads S.Source.ahead S.Source.place categories.now terms.long (on (in_group p [])) (listed names.old) source.old result (λ _. ended p (drop (vec_len gathered.old.held) gathered.new.held.items) (vec_len gathered.new.held - vec_len gathered.old.held + 2)) (listed names.new) source.new }
     ensures fits { OnOk result (terms.counted + (vec_len gathered.new.held - vec_len gathered.old.held + 2) + terms.few ≤ 4096) }
     ensures kept { Kept gathered.old.held gathered.new.held }
+    ensures capacity { vec_capacity gathered.new.held ≡ vec_capacity gathered.old.held }
 {
     let start = gathered.held.len();
     let mut depth = 0;
@@ -84,6 +85,7 @@ pub(crate) fn undelimited<S: Source>(
     ensures goes { (p : Progress) → Under terms p → Goes S.Source.reads S.Source.ahead S.Source.place categories.now terms.long (on (skipping p)) (listed names.old) source.old result (λ n. ended p (drop (vec_len gathered.old.held) gathered.new.held.items) n) (listed names.new) source.new }
     ensures fits { IfOk result (λ n. (terms.counted + n + terms.few ≤ 4096) × (vec_len gathered.new.held ≤ vec_len gathered.old.held + n)) }
     ensures kept { Kept gathered.old.held gathered.new.held }
+    ensures capacity { vec_capacity gathered.new.held ≡ vec_capacity gathered.old.held }
 {
     let token = unblanked(source, categories, names)?;
     if is_close(token) {

@@ -39,6 +39,7 @@ run-init g c =
       omega (arith, c.len-start.ensures),
       omega (arith, c.len-start.ensures, c.requires.some),
       all_before v c.len-start.result c.len-start.ensures,
+      refl,
     )
 
 pub settle-requires : goal.settle-requires
@@ -137,6 +138,7 @@ run-preserved g c =
       omega (arith, f.0.within, len, i.6, c.push_reserved.ensures.len),
       omega (arith, most, len, (sym c.args.delimiter.tokens), i.6, c.push_reserved.ensures.len, (λ (q : ◌≡◌ (c.len.result - start) (m.at + length c.args.delimiter.words.now)). c.if-len-start.false q), c.len.ensures),
       pushed_before v w t start (omega (arith, i.6)) c.push_reserved.ensures.items ∙ i.8,
+      c.push_reserved.ensures.capacity ∙ i.9,
     )
 
 pub returns-then-len-start-clause-goes : goal.returns-then-len-start-clause-goes

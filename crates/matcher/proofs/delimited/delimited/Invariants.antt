@@ -1,4 +1,4 @@
-use Rattle.std.proofs.Common.{◌≡◌, ◌+◌, ◌<◌, ◌≤◌, [], take, drop, Some, vec_items, vec_len}
+use Rattle.std.proofs.Common.{◌≡◌, ◌+◌, ◌<◌, ◌≤◌, [], take, drop, Some, vec_items, vec_len, vec_capacity}
 use Rattle.names.specs.Spelled.{listed}
 use Rattle.matching.specs.Braces.{deeper}
 use Rattle.matching.specs.Dividing.{Permitted}
@@ -21,6 +21,7 @@ invariant-run g l =
     × (l.start + l.at ≤ vec_len l.gathered.held)
     × (vec_len l.gathered.held < l.start + l.at + l.width)
     × (take l.start (vec_items l.gathered.held) ≡ vec_items l.initial.gathered.held)
+    × (vec_capacity l.gathered.held ≡ vec_capacity l.initial.gathered.held)
 
 abbrev pub decreases-run : goal.decreases-run
 decreases-run g l = size (stream l.categories (listed l.names) (g.S.Source.ahead l.source))

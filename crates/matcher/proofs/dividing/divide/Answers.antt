@@ -3,12 +3,12 @@ use Rattle.std.proofs.lemmas.List.{nil_from_length}
 use Rattle.std.proofs.lemmas.Result.{err_from_is_err_and}
 use Rattle.tokens.specs.declared.token.Token.{Token}
 use Rattle.matching.specs.Dividing.{parameters_of}
-use Rattle.matching.specs.Matching.{awaiting, following, fewest}
+use Rattle.matching.specs.Matching.{following, fewest}
 use Rattle.matcher.specs.Held.{arguments_of}
 use Rattle.matcher.specs.Marks.{delimiter_in}
 use Rattle.matcher.specs.Spans.{parts_of}
 use Rattle.matcher.specs.declared.arguments.Arguments.{Arguments}
-use Rattle.matcher.proofs.Going.{stay, stay_at, onward, turned, fails}
+use Rattle.matcher.proofs.Going.{stay, onward, turned, fails}
 use Rattle.matcher.proofs.Wording.{fewest_short, fewest_tail, parted, next_delimiters, next_parameters}
 use Rattle.matcher.proofs.dividing.divide.Goals as goal
 
@@ -17,12 +17,10 @@ no_arguments a e = ap (parts_of (vec_items a.gathered.held)) (nil_from_length (v
 
 pub returns-in_err-text_before : goal.returns-in_err-text_before
 returns-in_err-text_before g c =
-    let ws = c.args.words.now in
-    let p = parted ws c.delimiter_at-before.result.words.now c.delimiter_at-before.ensures in
-    let ds = (parameters_of ws).delimiters in
+    let ds = (parameters_of c.args.words.now).delimiters in
     let long = c.args.long in
     let e = err_from_is_err_and c.from_residual.result c.from_residual.ensures.1 in
-    rw (e.1, e.2) (fails _ _ _ _ long (stay_at _ _ _ _ long _ _ _ _ (ap (λ ts. awaiting ts ds) (sym p.same))) (c.in_err-text_before.ensures long ds))
+    rw (e.1, e.2) (c.in_err-text_before.ensures long ds)
 
 pub parameters-init : goal.parameters-init
 parameters-init g c =
@@ -57,7 +55,6 @@ returns-in_err-counted g c =
     let ds = (parameters_of words).delimiters in
     let long = c.args.long in
     let start =
-    onward _ _ _ _ long (stay_at _ _ _ _ long _ _ _ _ (ap (λ ts. awaiting ts ds) (sym q.same)))
     (turned _ _ _ _ long (c.in_ok-text_before.ensures long ds) (ap (following [] 0) (sym q.later) ∙ ap (λ (args : List (List Token)). following args 0 (parameters_of first).delimiters) (sym (no_arguments c.args.arguments.now c.requires.empty.1)))) in
     let ws = c.parameters.rest.now in
     let behind = c.in-Some.behind.now in
@@ -97,7 +94,6 @@ returns g c =
     let ds = (parameters_of words).delimiters in
     let long = c.args.long in
     let start =
-    onward _ _ _ _ long (stay_at _ _ _ _ long _ _ _ _ (ap (λ ts. awaiting ts ds) (sym q.same)))
     (turned _ _ _ _ long (c.in_ok-text_before.ensures long ds) (ap (following [] 0) (sym q.later) ∙ ap (λ (args : List (List Token)). following args 0 (parameters_of first).delimiters) (sym (no_arguments c.args.arguments.now c.requires.empty.1)))) in
     let i = c.parameters.invariant in
     let none : c.parameters.rest.now ≡ [] = nil_from_length c.parameters.rest.now c.in_default.ensures.cases in

@@ -1,4 +1,4 @@
-use Rattle.std.proofs.Common.{rules, ◌≡◌, ℕ, ◌+◌, ◌-◌, [], ◌∷◌, ◌++◌, drop, Some, None, vec_items, vec_len, sym, ap, ◌∙◌, subst, arith}
+use Rattle.std.proofs.Common.{rules, ◌≡◌, ℕ, ◌+◌, ◌-◌, [], ◌∷◌, ◌++◌, drop, Some, None, vec_items, vec_len, sym, refl, ap, ◌∙◌, subst, arith}
 use Rattle.std.proofs.lemmas.List.{length_push}
 use Rattle.std.proofs.lemmas.Result.{err_from_is_err_and}
 use Rattle.names.specs.Spelled.{listed}
@@ -25,6 +25,7 @@ group-init g c =
       omega (arith, c.len-start.ensures, c.requires.fits),
       omega (arith, c.len-start.ensures),
       all_before v c.len-start.result c.len-start.ensures,
+      refl,
     )
 
 pub group-preserved : goal.group-preserved
@@ -52,6 +53,7 @@ group-preserved g c =
       omega (arith, ok.1, c.push_reserved.ensures.len, c.len.ensures, i.4),
       omega (arith, c.push_reserved.ensures.len, i.4),
       pushed_before v w t start i.4 c.push_reserved.ensures.items ∙ i.5,
+      c.push_reserved.ensures.capacity ∙ i.6,
     )
 
 pub returns-in_err-token-clause-goes : goal.returns-in_err-token-clause-goes

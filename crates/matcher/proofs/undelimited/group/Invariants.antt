@@ -1,4 +1,4 @@
-use Rattle.std.proofs.Common.{◌≡◌, ◌+◌, ◌-◌, ◌≤◌, [], take, drop, Some, vec_items, vec_len}
+use Rattle.std.proofs.Common.{◌≡◌, ◌+◌, ◌-◌, ◌≤◌, [], take, drop, Some, vec_items, vec_len, vec_capacity}
 use Rattle.names.specs.Spelled.{listed}
 use Rattle.matching.specs.Braces.{deeper}
 use Rattle.matching.specs.Dividing.{Permitted}
@@ -17,6 +17,7 @@ invariant-group g l =
     × (l.terms.counted + (vec_len l.gathered.held - l.start + 2 + l.depth) + l.terms.few ≤ 4096)
     × (l.start ≤ vec_len l.gathered.held)
     × (take l.start (vec_items l.gathered.held) ≡ vec_items l.initial.gathered.held)
+    × (vec_capacity l.gathered.held ≡ vec_capacity l.initial.gathered.held)
 
 abbrev pub decreases-group : goal.decreases-group
 decreases-group g l = size (stream l.categories (listed l.names) (g.S.Source.ahead l.source))

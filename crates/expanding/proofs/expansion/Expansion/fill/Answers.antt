@@ -1,4 +1,4 @@
-use Rattle.std.proofs.Common.{◌≡◌, ◌+◌, ◌≤◌, List, ◌++◌, length, drop, vec_items, vec_len, vec_capacity, ap, ◌∙◌, arith}
+use Rattle.std.proofs.Common.{◌+◌, List, ◌++◌, length, drop, vec_items, vec_capacity, ap, ◌∙◌, arith}
 use Rattle.std.proofs.lemmas.List.{length-append}
 use Rattle.tokens.specs.declared.token.Token.{Token}
 use Rattle.matcher.specs.Held.{arguments_of}
@@ -7,21 +7,28 @@ use Rattle.expanding.proofs.Bodies.{long_word, written}
 use Rattle.expanding.proofs.expansion.Expansion.fill.Goals as goal
 use Rattle.expanding.proofs.expansion.Expansion.fill.Goals.{in-Token, in-Reference}
 
+pub append-requires : goal.append-requires
+append-requires c =
+    let args = arguments_of c.args.arguments.now in
+    let ws = c.args.body.now in
+    let v = c.body.self.tokens.held in
+    let e = long_word args ws c.body.word-index _ _ c.body-test.true c.in-Reference.is in
+    omega (arith, e, v.ok.0, length-append (vec_items v) (substituted args (drop c.body.word-index ws)), ap length c.body.invariant.0, c.body.self.tokens.room, c.requires.fits, ap length c.referred.ensures)
+
 pub body-preserved : goal.body-preserved
 body-preserved c =
     let args = arguments_of c.args.arguments.now in
     let ws = c.args.body.now in
     let v = c.body.self.tokens.held in
     elim c.match-word.branch [
-      | in-Token w ↦
-          ap (λ (z : _). vec_items z.tokens.held ++ substituted args (drop (c.body.word-index + 1) ws)) w.self-is
-          ∙ written args ws c.body.word-index _ _ c.body-test.true w.in-Token.is (vec_items v) (vec_items w.push_reserved.new.self) w.push_reserved.ensures.items ∙ c.body.invariant
-      | in-Reference w ↦
-          let more = w.referred.result.now in
-          let e = long_word args ws c.body.word-index _ _ c.body-test.true w.in-Reference.is in
-          let h = w.extend_from_slice.ensures in
-          let room : vec_len v + length more ≤ vec_capacity v = omega (arith, e, v.ok.0, length-append (vec_items v) (substituted args (drop c.body.word-index ws)), ap length c.body.invariant, c.body.self.tokens.room, c.requires.fits, ap length w.referred.ensures) in
-          let items : w.extend_from_slice.new.self.items ≡ vec_items v ++ more = grind (arith, h.items, h.succeeds room) in
-          ap (λ (z : _). vec_items z.tokens.held ++ substituted args (drop (c.body.word-index + 1) ws)) w.self-is
-          ∙ written args ws c.body.word-index _ _ c.body-test.true w.in-Reference.is (vec_items v) (vec_items w.extend_from_slice.new.self) (items ∙ ap (λ (z : List Token). vec_items v ++ z) w.referred.ensures) ∙ c.body.invariant
+      | in-Token w ↦ (
+        ap (λ (z : _). vec_items z.tokens.held ++ substituted args (drop (c.body.word-index + 1) ws)) w.self-is
+            ∙ written args ws c.body.word-index _ _ c.body-test.true w.in-Token.is (vec_items v) (vec_items w.push_reserved.new.self) w.push_reserved.ensures.items ∙ c.body.invariant.0,
+        ap (λ (z : _). vec_capacity z.tokens.held) w.self-is ∙ w.push_reserved.ensures.capacity ∙ c.body.invariant.1,
+      )
+      | in-Reference w ↦ (
+        ap (λ (z : _). vec_items z.tokens.held ++ substituted args (drop (c.body.word-index + 1) ws)) w.self-is
+            ∙ written args ws c.body.word-index _ _ c.body-test.true w.in-Reference.is (vec_items v) (vec_items w.append.new.tokens) (w.append.ensures.items ∙ ap (λ (z : List Token). vec_items v ++ z) w.referred.ensures) ∙ c.body.invariant.0,
+        ap (λ (z : _). vec_capacity z.tokens.held) w.self-is ∙ w.append.ensures.capacity ∙ c.body.invariant.1,
+      )
     ]

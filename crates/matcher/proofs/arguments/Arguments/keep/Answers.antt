@@ -9,7 +9,7 @@ invariant_of-self c =
     let a = c.args.self.now in
     let n = vec_len a.gathered.held in (
       (omega (arith, a.spans.room, c.push_reserved.ensures.capacity), tt),
-      (subst (λ (ss : List Span). all_within n ss ≡ true) (sym c.push_reserved.ensures.items) (within_push n (vec_items a.spans.held) c.args.span c.requires.within.0 c.requires.within.1 a.within), tt),
+      (a.room, (omega (arith, a.places, c.push_reserved.ensures.capacity), (subst (λ (ss : List Span). all_within n ss ≡ true) (sym c.push_reserved.ensures.items) (within_push n (vec_items a.spans.held) c.args.span c.requires.within.0 c.requires.within.1 a.within), tt))),
     )
 
 pub returns-clause-arguments : goal.returns-clause-arguments

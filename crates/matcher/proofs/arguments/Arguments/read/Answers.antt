@@ -14,12 +14,16 @@ use Rattle.matcher.proofs.arguments.Arguments.read.Goals as goal
 pub invariant_of-self : goal.invariant_of-self
 invariant_of-self g c =
     let a = c.args.self.now in record {
+      room = omega (arith, a.room, c.undelimited.ensures.capacity);
+      places = a.places;
       within = within_more (vec_len a.gathered.held) (vec_len c.undelimited.new.gathered.held) (vec_items a.spans.held) (kept_longer a.gathered.held c.undelimited.new.gathered.held c.undelimited.ensures.kept) a.within;
     }
 
 pub invariant_of-self-2 : goal.invariant_of-self-2
 invariant_of-self-2 g c =
     let a = c.args.self.now in record {
+      room = omega (arith, a.room, c.delimited.ensures.capacity);
+      places = a.places;
       within = within_more (vec_len a.gathered.held) (vec_len c.delimited.new.gathered.held) (vec_items a.spans.held) (kept_longer a.gathered.held c.delimited.new.gathered.held c.delimited.ensures.kept) a.within;
     }
 
