@@ -1,6 +1,6 @@
 -- Save records in one list, oldest first, with a base for each group: the innermost base first.
-use Rattle.std.proofs.Common.{◌≡◌, ℕ, zero, suc, ◌<◌, ◌≤◌, true, false, cond, not, eqb, ltb, leb, List, [], ◌∷◌, ◌++◌, reverse, length, get_or, take, drop, replicate, vec_items, vec_len, sym, refl, ap, ◌∙◌, subst, arith}
-use Rattle.std.proofs.lemmas.List.{reverse-append, length-reverse, take-append-drop, length-take-le, take_all, drop_all, take-append-le, drop-append-le, length-drop}
+use Rattle.std.proofs.Common.{◌≡◌, ℕ, zero, suc, ◌+◌, ◌-◌, ◌<◌, ◌≤◌, true, false, cond, not, eqb, ltb, leb, List, [], ◌∷◌, ◌++◌, reverse, length, get_or, take, drop, replicate, vec_items, vec_len, sym, refl, ap, ◌∙◌, subst, arith}
+use Rattle.std.proofs.lemmas.List.{reverse-append, length-reverse, take-append-drop, length-take-le, take_all, drop_all, take-append-le, drop-append-le, length-drop, drop_more}
 use Rattle.std.proofs.lemmas.Bool.{and_parts, and_from, leb-true, le-leb, eqb-true, ltb-true, lt-ltb}
 use Rattle.tables.specs.declared.Entry.{Entry}
 use Rattle.tables.specs.declared.Saved.{Saved}
@@ -74,6 +74,11 @@ module _ {V : Type 0} where
   pub keys_take : (n b : ℕ) (ss : List (Saved V)) → keys_below n ss ≡ true → keys_below n (take b ss) ≡ true
   keys_take n b ss h = keys_front n (take b ss) (drop b ss) (rw take-append-drop h)
 
+  pub keys_at : (n i : ℕ) (ss : List (Saved V)) (r : Saved V) → keys_below n ss ≡ true → i < length ss → r ≡ get_or ss i r → r.key < n
+  keys_at n i [] r h l e = absurd (omega arith)
+  keys_at n zero (s ∷ ss) r h l e = rw e (ltb-true s.key n (and_parts (ltb s.key n) (keys_below n ss) h).0)
+  keys_at n (suc i) (s ∷ ss) r h l e = keys_at n i ss r (and_parts (ltb s.key n) (keys_below n ss) h).1 (omega arith) e
+
   pub keys_end : (n : ℕ) (ss : List (Saved V)) (r : Saved V) → keys_below n (ss ++ r ∷ []) ≡ true → r.key < n
   keys_end n [] r h = ltb-true r.key n (and_parts (ltb r.key n) true h).0
   keys_end n (s ∷ ss) r h = keys_end n ss r (and_parts (ltb s.key n) (keys_below n (ss ++ r ∷ [])) h).1
@@ -92,6 +97,20 @@ module _ {V : Type 0} where
   pub undone_none : (ss : List (Saved V)) (t : Table V) → length ss ≡ 0 → t ≡ undone (reverse ss) t
   undone_none [] t e = refl
   undone_none (s ∷ ss) t e = absurd (omega arith)
+
+  -- records undone from the end down: one more
+  undone_last : (rs : List (Saved V)) (r : Saved V) (t : Table V) → undone (rs ++ r ∷ []) t ≡ restored r (undone rs t)
+  undone_last [] r t = refl
+  undone_last (s ∷ rs) r t = undone_last rs r (restored s t)
+
+  pub undone_more : (i : ℕ) (ss : List (Saved V)) (r : Saved V) (t : Table V) → 0 < i → i ≤ length ss → r ≡ get_or ss (i - 1) r
+      → restored r (undone (reverse (drop i ss)) t) ≡ undone (reverse (drop (i - 1) ss)) t
+  undone_more i ss r t h l e =
+      let k : i - 1 < length ss = omega arith in
+      let n : i - 1 + 1 ≡ i = omega arith in
+      let f : drop (i - 1) ss ≡ r ∷ drop i ss = drop_more ss (i - 1) r k ∙ (λ j. sym e j ∷ drop (n j) ss) in
+      sym (undone_last (reverse (drop i ss)) r t)
+      ∙ ap (λ (rs : List (Saved V)). undone rs t) (sym (reverse-append (r ∷ []) (drop i ss)) ∙ ap reverse (sym f))
 
 -- a record undone where the present value is not global
 pub restored_over : {V : Type 0} (r : Saved V) (t : Table V) (n : ℕ) → n ≡ (t r.key).level → (n ≡ 0 → ⊥) → put t r.key r.entry ≡ restored r t

@@ -1,6 +1,7 @@
 -- A run of letters, as the library has a run of elements that pass a test.
-use Rattle.std.proofs.Common.{◌≡◌, ◌+◌, ◌<◌, ◌≤◌, length, true, false, ℕ, List, [], ◌∷◌, take, refl, ap, cond, ◌∙◌, arith}
+use Rattle.std.proofs.Common.{◌≡◌, ◌+◌, ◌<◌, ◌≤◌, length, true, false, ℕ, List, [], ◌∷◌, ◌++◌, get_or, take, drop, refl, sym, ap, cond, ◌∙◌, arith}
 use Rattle.std.specs.List.{prefix_len}
+use Rattle.std.proofs.lemmas.List.{take_more, drop_more, append_assoc, append-nil, take_all, drop_all}
 use Rattle.std.proofs.lemmas.List.Sums.{take_while-cons, prefix_len-le-length}
 use Rattle.lines.specs.Line.{Categories, category, is_letter, letters, escaped}
 
@@ -22,3 +23,17 @@ module _ (cs : Categories) where
   -- so many letters, if there are any, are what an escape takes
   pub count_escaped : (n : ℕ) (l : List ℕ) → n ≡ count l → (n ≡ 0 → ⊥) → take n l ≡ escaped cs l
   count_escaped n l e h = rw e (some_escaped l (omega arith))
+
+-- a run of letters, told by how far it goes
+module _ (cs : Categories) (l : List ℕ) (i : ℕ) (h : i < length l) where
+  pub letter_more : is_letter (category cs (get_or l i 0)) ≡ true → take (i + 1) l ++ letters cs (drop (i + 1) l) ≡ take i l ++ letters cs (drop i l)
+  letter_more e = rw (take_more l i 0 h, append_assoc (take i l), drop_more l i 0 h, e)
+
+  pub letter_stop : is_letter (category cs (get_or l i 0)) ≡ false → take i l ++ letters cs (drop i l) ≡ take i l
+  letter_stop e = rw (drop_more l i 0 h, e) (append-nil (take i l))
+
+pub letters_all : (cs : Categories) (l : List ℕ) (i : ℕ) → length l ≤ i → take i l ++ letters cs (drop i l) ≡ letters cs l → take (length l) l ≡ letters cs l
+letters_all cs l i h e = take_all (length l) l refl_le ∙ sym (append-nil l) ∙ (rw (take_all i l h, drop_all i l h) at e)
+  where
+    refl_le : length l ≤ length l
+    refl_le = omega arith

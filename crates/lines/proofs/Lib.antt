@@ -1,3 +1,4 @@
+mod Fronts
 mod Letters
 pub mod Reading
 pub mod Bounds

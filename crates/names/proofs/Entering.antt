@@ -1,11 +1,11 @@
 -- What the table's entries say of its spellings.
-use Rattle.std.proofs.Common.{◌≡◌, ℕ, ◌+◌, Bool, true, false, cond, List, [], ◌∷◌, ◌++◌, length, Some, None, refl, sym, ap, subst, ◌∙◌, arith}
+use Rattle.std.proofs.Common.{◌≡◌, ℕ, ◌+◌, ◌<◌, Bool, true, false, cond, List, [], ◌∷◌, ◌++◌, length, get_or, Some, None, refl, sym, ap, subst, ◌∙◌, arith}
 use Rattle.std.specs.Cmp.Lexicographic.{nat_list_eq_equiv}
 use Rattle.std.specs.Str.{bytes_eq}
 use Rattle.std.specs.List.{position, position_from, list_any}
 use Rattle.std.specs.Option.{option_map}
 use Rattle.std.proofs.lemmas.Iterator.Adapters.{position_from-zero}
-use Rattle.std.proofs.lemmas.List.{length-map, length_push, map_push}
+use Rattle.std.proofs.lemmas.List.{length-map, get_or-map, length_push, map_push}
 use Rattle.indexmap.specs.IndexSet.{index_set_len, insert_key}
 use Rattle.names.specs.declared.spelling.Spelling.{Spelling}
 use Rattle.names.specs.declared.table.Table.{Table}
@@ -16,6 +16,9 @@ use Rattle.names.proofs.Finding.{none_found, distinct_push}
 
 pub held_long : (t : Table) → length (held t) ≡ index_set_len t.entries
 held_long t = length-map t.entries.keys spelled
+
+pub spelled_at : (t : Table) (i : ℕ) (e : Spelling) → i < index_set_len t.entries → e ≡ get_or t.entries.keys i e → get_or (held t) i [] ≡ spelled e
+spelled_at t i e h x = get_or-map spelled t.entries.keys i e [] h ∙ ap spelled (sym x)
 
 module _ (s : List ℕ) where
   abbrev same : Spelling → Bool

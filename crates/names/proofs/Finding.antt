@@ -3,9 +3,10 @@ use Rattle.std.proofs.Common.{◌≡◌, ℕ, zero, suc, ◌+◌, ◌<◌, ◌�
 use Rattle.std.specs.Str.{bytes_eq}
 use Rattle.std.proofs.lemmas.Slice.Eq.{bytes_eq-Decides}
 use Rattle.std.proofs.lemmas.List.{length_push, get_or_push, get_or_append_left, take-append-le}
-use Rattle.std.proofs.lemmas.Bool.{cases_lt, lt-ltb, cond-true, cond_both}
+use Rattle.std.proofs.lemmas.Bool.{cases_lt, lt-ltb, le-ltb, cond-true, cond-false, cond_both}
 use Rattle.std.proofs.lemmas.Bool.Decides.{not_from_Decides}
-use Rattle.names.specs.Naming.{Spellings, find, number_in, taken_in, Entered, known, entered, enter, names_after, Distinct}
+use Rattle.names.specs.declared.fault.NamesFault.TheVariants.{Full}
+use Rattle.names.specs.Naming.{Spellings, find, number_in, taken_in, Entered, known, refused, entered, enter, names_after, Distinct}
 
 -- what the answer of a search tells
 data Told (k : ℕ) (s : List ℕ) (ns : Spellings) : Option ℕ → Type 0 where
@@ -30,6 +31,20 @@ told k s [] = absent (λ i h e. omega arith)
 told k s (t ∷ ts) = first k s t ts (bytes_eq t s) refl (told (k + 1) s ts)
 
 module _ (k : ℕ) (s : List ℕ) (ns : Spellings) where
+  pub find_none : ((i : ℕ) → i < length ns → get_or ns i [] ≡ s → ⊥) → find k s ns ≡ None
+  find_none h = go (find k s ns) (told k s ns)
+    where
+      go : (r : Option ℕ) → Told k s ns r → r ≡ None
+      go None t = refl
+      go (Some n) (present i e l x) = absurd (h i l x)
+
+  pub find_at : Distinct ns → (i : ℕ) → i < length ns → get_or ns i [] ≡ s → find k s ns ≡ Some (k + i)
+  find_at d i l h = go (find k s ns) (told k s ns)
+    where
+      go : (r : Option ℕ) → Told k s ns r → r ≡ Some (k + i)
+      go None (absent f) = absurd (f i l h)
+      go (Some n) (present j e m x) = ap Some (e ∙ ap (λ j. k + j) (d (j, m) (i, l) (x ∙ sym h)))
+
   pub none_found : find k s ns ≡ None → (i : ℕ) → i < length ns → get_or ns i [] ≡ s → ⊥
   none_found e = go (find k s ns) e (told k s ns)
     where
@@ -38,6 +53,9 @@ module _ (k : ℕ) (s : List ℕ) (ns : Spellings) where
       go (Some n) x t = let z : ◌≡◌ {A = ℕ} 0 1 = cc in omega arith
 
 module _ (ns : Spellings) (s : List ℕ) where
+  pub entered_full : length ns ≡ 768 → entered ns s None ≡ refused Full
+  entered_full h = cond-false (ltb (taken_in ns) 1024) _ _ (le-ltb (taken_in ns) 1024 (omega arith))
+
   pub entered_new : length ns < 768 → entered ns s None ≡ known (taken_in ns) (ns ++ (s ∷ []))
   entered_new h = cond-true (ltb (taken_in ns) 1024) _ _ (lt-ltb (taken_in ns) 1024 (omega arith))
 

@@ -9,7 +9,7 @@ use Rattle.pending.specs.declared.task.Task.{Task}
 use Rattle.pending.specs.declared.task.Task.TheVariants as task
 use Rattle.pending.specs.declared.task.Task.TheVariants.{After}
 use Rattle.pending.specs.Underway.{waiting_of, beyond_waiting}
-use Rattle.pending.proofs.Ends.{fronted}
+use Rattle.pending.proofs.Ends.{pushed, fronted}
 
 -- the oldest of the waiting tokens comes first
 pub waiting_order : (v w : Token) (p : Prefix) (ts : List Task) → waiting_of (After v ∷ After w ∷ task.Prefix p ∷ ts) ≡ w ∷ v ∷ []
@@ -85,6 +85,18 @@ pub waiting_length : (ts : List Task) → prefix_len waits ts ≡ length (waitin
 waiting_length [] = refl
 waiting_length (After t ∷ ts) = omega (arith, waiting_length ts, length_push (waiting_of ts) t)
 waiting_length (task.Prefix p ∷ ts) = refl
+
+-- a list gone through from its end
+module _ (rest less : List Task) where
+  pub after_counts : (t : Token) → rest ≡ less ++ (After t ∷ []) → length (waiting_of (reverse rest)) ≡ length (waiting_of (reverse less)) + 1
+  after_counts t e = ap (λ l. length (waiting_of (reverse l))) e ∙ ap (λ l. length (waiting_of l)) (pushed less (After t)) ∙ length_push (waiting_of (reverse less)) t
+
+  pub prefix_counts : (p : Prefix) → rest ≡ less ++ (task.Prefix p ∷ []) → length (waiting_of (reverse rest)) ≡ 0
+  prefix_counts p e = ap (λ l. length (waiting_of (reverse l))) e ∙ ap (λ l. length (waiting_of l)) (pushed less (task.Prefix p))
+
+pub none_counts : (rest : List Task) → length rest ≡ 0 → length (waiting_of (reverse rest)) ≡ 0
+none_counts [] h = refl
+none_counts (t ∷ ts) h = absurd (omega arith)
 
 -- a copy of the tokens, from a place on: what is copied, then what is left
 module _ (xs : List Task) (i : ℕ) (copied all : List Token) where

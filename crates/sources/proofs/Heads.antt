@@ -1,5 +1,5 @@
 -- What a read answers and leaves, by what was ahead.
-use Rattle.std.proofs.Common.{◌≡◌, ◌<◌, ◌⊎◌, List, [], Some, None, Ok, Err, vec_items, vec_len, Option, Result, sym, refl, ap, ◌∙◌, inl, inr, arith}
+use Rattle.std.proofs.Common.{◌≡◌, ℕ, ◌<◌, ◌⊎◌, List, [], Some, None, Ok, Err, vec_items, vec_len, Option, Result, sym, refl, ap, ◌∙◌, inl, inr, arith}
 use lib.ListN
 use Rattle.tokens.specs.declared.token.Token.{Token}
 use Rattle.lines.specs.Line.{Categories, Item}
@@ -9,7 +9,7 @@ use Rattle.sources.specs.declared.fault.LineFault.{LineFault}
 use Rattle.sources.specs.declared.fault.PileFault.{PileFault}
 use Rattle.sources.specs.declared.fault.PileFault.TheVariants.{Line}
 use Rattle.sources.specs.declared.text.Text.{Text}
-use Rattle.sources.specs.Ahead.{Ahead, none, fault, token, ahead_of, head_answer, head_names, head_items}
+use Rattle.sources.specs.Ahead.{Ahead, none, fault, token, ahead_of, head_answer, head_names, head_items, Turned, Unnamed, Onward}
 use Rattle.sources.specs.Texts.{place_in}
 use Rattle.sources.specs.Texted.{text_ahead, text_place, text_lines}
 use Rattle.sources.specs.Placing.{text_place_lem}
@@ -37,3 +37,17 @@ text_placed t h =
     at : (0 < t.cursor.taken) ⊎ (t.cursor.taken ≡ vec_len t.line) → (0 < t.cursor.taken) ⊎ (t.cursor.taken ≡ lib.ListN.length (vec_items t.line))
     at (inl p) = inl p
     at (inr p) = inr (p ∙ t.line.ok.0)
+
+-- what a line's read said, once its answer is known
+module _ (cs : Categories) (a : Ahead) (ns ms : Spellings) (is : List Item) (o : Option Token) where
+  pub turned_some : (t : Token) → o ≡ Some t → Turned cs a (Ok o) ns is → a ≡ token t ns is (ahead_of cs ns is)
+  turned_some t e h = rw e at h
+
+  pub turned_none : o ≡ None → Turned cs a (Ok o) ns is → a ≡ ahead_of cs ns is
+  turned_none e h = rw e at h
+
+  pub unnamed_none : o ≡ None → Unnamed (Ok o) ns ms → ms ≡ ns
+  unnamed_none e h = rw e at h
+
+pub onward_some : (n all : ℕ) (o : Option Token) (t : Token) → o ≡ Some t → Onward (Ok o) 0 n all → 0 < n
+onward_some n all o t e h = rw e at h
