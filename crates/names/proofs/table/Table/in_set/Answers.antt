@@ -1,7 +1,7 @@
 use Rattle.std.proofs.Common.{◌+◌, sym, ap, ◌∙◌}
 use Rattle.std.specs.Option.{option_map}
 use Rattle.names.proofs.Entering.{find_place}
-use Rattle.names.proofs.table.Table.sought.Goals as goal
+use Rattle.names.proofs.table.Table.in_set.Goals as goal
 
 pub returns-in_err-place : goal.returns-in_err-place
 returns-in_err-place c =
