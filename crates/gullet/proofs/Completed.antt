@@ -5,6 +5,9 @@ use Rattle.tokens.specs.declared.token.Token.{Token}
 use Rattle.tokens.specs.declared.answer.Answer.{Answer}
 use Rattle.tokens.specs.declared.answer.Answer.TheVariants.{Working}
 use Rattle.sources.specs.declared.fault.Place.{Place}
+use Rattle.sources.specs.declared.fault.PileFault.{PileFault}
+use Rattle.sources.specs.declared.fault.PileFault.TheVariants as piles
+use Rattle.driving.specs.declared.status.Status.TheVariants.{Normal}
 use Rattle.pending.specs.declared.conditional.Part.{Part}
 use Rattle.pending.specs.declared.stack.Stack.{Stack}
 use Rattle.pending.specs.declared.task.Task.{Task}
@@ -16,6 +19,7 @@ use Rattle.rules.specs.Readers as readers
 use Rattle.rules.specs.Readers.{Reader}
 use Rattle.rules.specs.States.{State, state, completed_by}
 use Rattle.gullet.specs.declared.fault.GulletFault.{GulletFault}
+use Rattle.gullet.specs.declared.fault.Cause.TheVariants.{Pile}
 use Rattle.gullet.specs.Faults.{placed}
 
 module _ (s : State) (r : Reader) (cs : List Part) (p : Place) where
@@ -26,6 +30,14 @@ module _ (s : State) (r : Reader) (cs : List Part) (p : Place) where
   pub put_state : (x : Put) → Ok tt ≡ put_answer p x → state (readers.put r.stands (held_after r.stands.held x)) s.book cs (beyond_waiting s.tasks) ≡ (completed_by s r cs x).state
   put_state (put.put h) e = refl
   put_state (put.refused f) e = cc
+
+  pub refused_answer : (x : Put) (f : PileFault) → Err f ≡ put_answer p x → Err (record { cause = Pile f; status = Normal }) ≡ placed p (completed_by s r cs x).answer
+  refused_answer (put.put h) f e = cc
+  refused_answer (put.refused g) f e = let k : f ≡ piles.Pile g p = cc in ap (λ (x : PileFault). Err (record { cause = Pile x; status = Normal })) k
+
+  pub refused_state : (x : Put) (f : PileFault) → Err f ≡ put_answer p x → state (readers.put r.stands (held_after r.stands.held x)) s.book s.conditionals [] ≡ (completed_by s r cs x).state
+  refused_state (put.put h) f e = cc
+  refused_state (put.refused g) f e = refl
 
 -- with other conditionals open from then on
 module _ (s : State) (r : Reader) (ds : List Part) (f : List Part → List Part) (p : Place) where

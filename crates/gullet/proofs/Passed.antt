@@ -17,7 +17,7 @@ use Rattle.pending.specs.declared.task.Task.TheVariants.{After}
 use Rattle.pending.specs.Fronts.{front, behind, joining}
 use Rattle.piles.specs.Inserting as put
 use Rattle.piles.specs.Inserting.{Put, put_back}
-use Rattle.rules.specs.declared.refusal.GulletRefusal.TheVariants.{Misplaced, ConditionalsFull}
+use Rattle.rules.specs.declared.refusal.GulletRefusal.TheVariants.{Misplaced, ConditionalsFull, TasksFull}
 use Rattle.rules.specs.declared.phases.Until.TheVariants.{ElseOrFi, OnlyFi}
 use Rattle.rules.specs.declared.phases.Found.{Found}
 use Rattle.rules.specs.declared.phases.Found.TheVariants as found
@@ -90,6 +90,11 @@ module _ (s : State) (r : Reader) where
   fi_closes (c ∷ cs) h = refl
 
   -- an \else
+  pub else_refused : (cs : List Part) → is_first (front cs) ≡ false → at_else_of s r cs ≡ refuse s r Normal (gullet Misplaced)
+  else_refused [] e = refl
+  else_refused (First ∷ cs) e = cc
+  else_refused (Second ∷ cs) e = refl
+
   pub else_skips : (cs : List Part) → is_first (front cs) ≡ true → at_else_of s r cs ≡ finished s Skipping (skipping s r OnlyFi) (λ o q. completed s q (behind cs) [])
   else_skips [] e = cc
   else_skips (First ∷ cs) e = refl
@@ -106,6 +111,9 @@ module _ (s : State) (r : Reader) where
 
   pub after_reads : leb 64 (length s.tasks) ≡ false → expand_after s r ≡ finished s Normal (drive one_feed (on tt) r (ahead s r)) after_one
   after_reads e = rw e
+
+  pub after_refused : leb 64 (length s.tasks) ≡ true → expand_after s r ≡ refuse s r Normal (gullet TasksFull)
+  after_refused e = rw e
 
 -- a conditional is decided
 module _ (s : State) (few : length s.conditionals < 100) where

@@ -4,7 +4,7 @@ use Rattle.book.specs.Books.{code_answer, after_code, coding}
 use Rattle.book.specs.Said.{book_of}
 use Rattle.book.specs.Scopes.{operation}
 use Rattle.rules.specs.Readers.{reader}
-use Rattle.gullet.specs.States.{state_of}
+use Rattle.gullet.specs.States.{state_of, place_of}
 use Rattle.gullet.proofs.Booked.{recorded_left, recorded_done}
 use Rattle.gullet.proofs.Recoded.{category_read}
 use Rattle.gullet.proofs.parts.Gullet.give_category.Goals as goal
@@ -30,5 +30,5 @@ returns-clause-does g c =
     let e = c.assign_category.ensures in
     record {
       answer = search rules;
-      state = λ read. rw (category_read c.args.number y _ c.in-Ok.ensures, e.state, c.clear.ensures) (recorded_done s (reader s.stands read) s.stands sc (Code x y) (after_code sc x y s.book) (code_answer sc x y s.book) (search rules));
+      state = λ read. rw (category_read c.args.number y _ c.in-Ok.ensures, e.state, c.clear.ensures) (recorded_done s (reader s.stands read) s.stands sc (Code x y) (place_of c.args.self.now) (after_code sc x y s.book) (code_answer sc x y s.book) (search rules)).1;
     }
