@@ -1,5 +1,5 @@
 use Rattle.std.proofs.Common.{◌≡◌, ℕ, ◌+◌, ◌-◌, ◌≤◌, true, false, eqb, List, [], ◌∷◌, ◌++◌, length, take, drop, Some, None, vec_items, vec_len, sym, refl, ap, ◌∙◌, subst, arith, rules}
-use Rattle.std.proofs.lemmas.List.{length_push, drop-take, take_rest}
+use Rattle.std.proofs.lemmas.List.{length_push, drop-take, take_rest, take_all, drop_all}
 use Rattle.std.proofs.lemmas.Result.{err_from_is_err_and}
 use Rattle.std.proofs.lemmas.Bool.{cond-true, cond-false, eq-eqb, ne_eqb}
 use Rattle.tokens.specs.declared.token.Token.{Token}
@@ -14,7 +14,7 @@ use Rattle.matcher.specs.declared.mark.Mark.{Mark}
 use Rattle.calls.specs.declared.fault.MatcherCause.TheVariants.{Matcher}
 use Rattle.matcher.specs.Hindering.{hindrance}
 use Rattle.matcher.specs.Marks.{delimiter_in, Marked}
-use Rattle.matcher.proofs.Buffers.{long_from, none_from, all_before, pushed_from, pushed_before}
+use Rattle.matcher.proofs.Buffers.{long_from, pushed_from, pushed_before}
 use Rattle.matcher.proofs.Going.{stay, onward, turned, fails, refuses, hinders, read, unread}
 use Rattle.matcher.proofs.Hindering.{by, unhindered}
 use Rattle.matcher.proofs.Running.{fresh, unmatched_x, settled_then, told_then, pending_then, fed_then}
@@ -24,21 +24,22 @@ use Rattle.matcher.proofs.delimited.delimited.Goals as goal
 Found : List Token → ℕ → Mark → List Token → Type 0
 Found d at m x = Marked x at m × (settled_from d (take at x) (drop at x) ≡ take m.at x)
 
+-- The buffer is not named: what is said holds too of one that took memory before the loop, so that the clause of capacity
+-- alone refuses that.
 pub run-init : goal.run-init
 run-init g c =
-    let v = c.args.gathered.now.held in
-    let none = none_from v c.len-start.result c.len-start.ensures in
+    let start = c.len-start.result in
     let long = c.args.terms.long in
     let d = delimiter_in c.args.delimiter.words.now in (
-      (λ p u. turned _ _ _ _ long (stay _ _ _ _ long (on (in_run p d [])) _ _) (ap (λ xs. on (in_run p d xs)) (sym none))),
-      ap (settled d) none ∙ ap (take 0) (sym none),
+      (λ p u. turned _ _ _ _ long (stay _ _ _ _ long (on (in_run p d [])) _ _) (ap (λ xs. on (in_run p d xs)) (sym (drop_all start _ (search rules))))),
+      ap (settled d) (drop_all start _ (search rules)),
       refl,
       permitted_none long,
-      omega (arith, c.args.terms.fits),
-      omega arith,
-      omega (arith, c.len-start.ensures),
-      omega (arith, c.len-start.ensures, c.requires.some),
-      all_before v c.len-start.result c.len-start.ensures,
+      search rules,
+      search rules,
+      search rules,
+      search rules,
+      take_all start _ (search rules),
       refl,
     )
 

@@ -1,5 +1,5 @@
 use Rattle.std.proofs.Common.{rules, ◌≡◌, ℕ, ◌+◌, ◌-◌, [], ◌∷◌, ◌++◌, drop, Some, None, vec_items, vec_len, sym, refl, ap, ◌∙◌, subst, arith}
-use Rattle.std.proofs.lemmas.List.{length_push}
+use Rattle.std.proofs.lemmas.List.{length_push, take_all, drop_all}
 use Rattle.std.proofs.lemmas.Result.{err_from_is_err_and}
 use Rattle.names.specs.Spelled.{listed}
 use Rattle.matching.specs.Braces.{deeper, is_par}
@@ -9,22 +9,23 @@ use Rattle.matching.proofs.Valid.{permitted_none}
 use Rattle.matching.specs.declared.refusal.MatcherRefusal.{MatcherRefusal}
 use Rattle.calls.specs.declared.fault.MatcherCause.TheVariants.{Matcher}
 use Rattle.matcher.specs.Hindering.{hindrance}
-use Rattle.matcher.proofs.Buffers.{long_from, none_from, all_before, pushed_from, pushed_before}
+use Rattle.matcher.proofs.Buffers.{long_from, pushed_from, pushed_before}
 use Rattle.matcher.proofs.Going.{stay, onward, turned, fails, hinders, read, unread}
 use Rattle.matcher.proofs.Hindering.{by, unhindered, group_closes, group_deeper, group_on, group_permitted}
 use Rattle.matcher.proofs.undelimited.group.Goals as goal
 
+-- The buffer is not named: what is said holds too of one that took memory before the loop, so that the clause of capacity
+-- alone refuses that.
 pub group-init : goal.group-init
 group-init g c =
-    let v = c.args.gathered.now.held in
-    let none = none_from v c.len-start.result c.len-start.ensures in
+    let start = c.len-start.result in
     let long = c.args.terms.long in (
-      (λ p u. turned _ _ _ _ long (stay _ _ _ _ long (on (in_group p [])) _ _) (ap (λ xs. on (in_group p xs)) (sym none))),
-      ap (deeper 0) none,
-      subst (Permitted long) (sym none) (permitted_none long),
-      omega (arith, c.len-start.ensures, c.requires.fits),
-      omega (arith, c.len-start.ensures),
-      all_before v c.len-start.result c.len-start.ensures,
+      (λ p u. turned _ _ _ _ long (stay _ _ _ _ long (on (in_group p [])) _ _) (ap (λ xs. on (in_group p xs)) (sym (drop_all start _ (search rules))))),
+      ap (deeper 0) (drop_all start _ (search rules)),
+      subst (Permitted long) (sym (drop_all start _ (search rules))) (permitted_none long),
+      search rules,
+      search rules,
+      take_all start _ (search rules),
       refl,
     )
 
